@@ -1,0 +1,136 @@
+-- The problem file, field by field: reading it into a problem's numbers, judging numbers as they would be written, and its bytes.
+use Prim.Native.Nat.{ℕ, zero, suc, _+_, _*_, _-_}
+use mathlib.Core.List.{List, [], _∷_, _++_}
+use mathlib.Core.Bool.{Bool, true, false, cond, not, _&&_, _||_}
+use lib.ListN.{length, getD, set, replicate}
+use lib.Dec.{eqb, ltb, leb}
+use Rattle.model.specs.declared.Refusal.{Refusal}
+use Rattle.model.specs.declared.Refusal.the-variants as refusal
+use Rattle.model.specs.declared.Number as spelt
+use Rattle.model.specs.declared.Number.the-variants as number
+use Rattle.model.specs.declared.Field.{Field}
+use Rattle.model.specs.declared.Fields.{Fields}
+use Rattle.model.specs.declared.Fields.the-variants.{Done, Refused}
+use Rattle.model.specs.Spelling.{readNumber, numberSize, numberBytes}
+use Rattle.model.specs.Table.{least, greatest, base, kind, jump, countOver}
+
+-- The most numbers that a file has.
+abbrev pub numberCount : ℕ
+numberCount = 1446
+
+-- Read looks at no byte from here on: a number takes at most five bytes.
+abbrev pub readLength : ℕ
+readLength = 5 * numberCount + 1
+
+-- The file's first field: the edition.
+abbrev pub firstField : Field
+firstField = record { row = 0; place = 0; left = 0 }
+
+abbrev pub atEnd : Field → Bool
+atEnd c = leb 15 (c .row)
+
+-- The next field after v stands at c. A count opens its list, or passes it by where it is 0; an item's last number leads to the next item, or past its list.
+abbrev pub nextInItem : Field → Field
+nextInItem c = record { row = c .row + 1; place = c .place + 1; left = c .left }
+
+abbrev pub openList : Field → ℕ → Field
+openList c v = record { row = c .row + 1; place = c .place + 1; left = v - 1 }
+
+abbrev pub nextItem : Field → Field
+nextItem c = record { row = jump (c .row); place = c .place + 1; left = c .left - 1 }
+
+abbrev pub rowStart : ℕ → Field
+rowStart row = record { row = row; place = base row; left = 0 }
+
+unfoldable pub nextField : Field → ℕ → Field
+nextField c v =
+    cond (eqb (kind (c .row)) 1)
+    (cond (eqb v 0) (rowStart (jump (c .row))) (openList c v))
+    (cond (eqb (kind (c .row)) 4)
+    (cond (eqb (c .left) 0) (rowStart (c .row + 1)) (nextItem c))
+    (nextInItem c))
+
+-- Whether v may stand at c, where l has the numbers before it: within its row, below the count that narrows the row, and for a loop's last
+-- vertex not below the header just before it.
+unfoldable pub inRange : List ℕ → Field → ℕ → Bool
+inRange l c v =
+    leb (least (c .row)) v
+    && (leb v (greatest (c .row))
+    && ((eqb (countOver (c .row)) 0 || ltb v (getD l (countOver (c .row)) 0))
+    && (not (eqb (c .row) 13) || leb (getD l (c .place - 1) 0) v)))
+
+-- Edges ascend strictly by (from, to).
+abbrev pub edgeBefore : ℕ → ℕ → ℕ → ℕ → Bool
+edgeBefore from to from′ to′ = ltb from from′ || (eqb from from′ && ltb to to′)
+
+-- Whether the item whose last number stands at c may follow the item before it. Edges ascend, loops ascend by header; other items have no order.
+unfoldable pub ascends : List ℕ → Field → Bool
+ascends l c =
+    cond (eqb (c .place) (base (c .row))) true
+    (cond (eqb (c .row) 10) (edgeBefore (getD l (c .place - 3) 0) (getD l (c .place - 2) 0) (getD l (c .place - 1) 0) (getD l (c .place) 0))
+    (cond (eqb (c .row) 14) (ltb (getD l (c .place - 5) 0) (getD l (c .place - 2) 0)) true))
+
+-- Where the item that c belongs to starts, if c stands at a position and `start` was said of the field before.
+abbrev pub itemStart : Field → ℕ → ℕ → ℕ
+itemStart c at start = cond (eqb (kind (c .row)) 2) at start
+
+-- What reading the fields leaves: the answer, and the numbers as far as they were read.
+pub record Scan : Type 0 where
+  pub answer : Fields
+  pub numbers : List ℕ
+
+abbrev pub scanned : Fields → List ℕ → Scan
+scanned a l = record { answer = a; numbers = l }
+
+-- 1, the bytes end before a number does; 2, a misspelt number; or what is done with the number.
+abbrev pub onNumber : spelt.Number → ℕ → ℕ → List ℕ → (ℕ → ℕ → Scan) → Scan
+onNumber (number.Value v next) size at l go = go v next
+onNumber number.Ended size at l go = scanned (Refused (refusal.Ended size)) l
+onNumber number.Misspelt size at l go = scanned (Refused (refusal.Misspelt at)) l
+
+-- Reads from the field c on, at most n fields, at a position of the bytes s, into the numbers l. 3, out of range; after an item's last number 4, not ascending.
+unfoldable pub readFrom : ℕ → List ℕ → ℕ → ℕ → Field → List ℕ → Scan
+readFrom zero s at start c l = scanned (Done at) l
+readFrom (suc n) s at start c l =
+    cond (atEnd c) (scanned (Done at) l)
+    (onNumber (readNumber s at) (length s) at l (λ v next.
+    cond (inRange l c v)
+    (cond (ascends (set l (c .place) v) c)
+    (readFrom n s next (itemStart c at start) (nextField c v) (set l (c .place) v))
+    (scanned (Refused (refusal.NotAscending (itemStart c at start))) (set l (c .place) v)))
+    (scanned (Refused (refusal.OutOfRange at)) l)))
+
+abbrev pub readFields : List ℕ → Scan
+readFields s = readFrom numberCount s 0 0 firstField (replicate numberCount 0)
+
+-- The same judgement of numbers that are there already, placed by the bytes that they would be written as.
+unfoldable pub checkFrom : ℕ → ℕ → ℕ → Field → List ℕ → Fields
+checkFrom zero at start c l = Done at
+checkFrom (suc n) at start c l =
+    cond (atEnd c) (Done at)
+    (cond (inRange l c (getD l (c .place) 0))
+    (cond (ascends l c)
+    (checkFrom n (at + numberSize (getD l (c .place) 0)) (itemStart c at start) (nextField c (getD l (c .place) 0)) l)
+    (Refused (refusal.NotAscending (itemStart c at start))))
+    (Refused (refusal.OutOfRange at)))
+
+abbrev pub checkFields : List ℕ → Fields
+checkFields l = checkFrom numberCount 0 0 firstField l
+
+-- The bytes of the fields from c on: each number in its shortest spelling.
+unfoldable pub bytesFrom : ℕ → Field → List ℕ → List ℕ
+bytesFrom zero c l = []
+bytesFrom (suc n) c l =
+    cond (atEnd c) [] (numberBytes (getD l (c .place) 0) ++ bytesFrom n (nextField c (getD l (c .place) 0)) l)
+
+-- The file of a problem's numbers.
+abbrev pub fileBytes : List ℕ → List ℕ
+fileBytes l = bytesFrom numberCount firstField l
+
+-- Whether a place of a problem's numbers is in use: the other places are spare.
+unfoldable pub inUse : List ℕ → ℕ → Bool
+inUse l k =
+    ltb k (3 + 2 * getD l 2 0)
+    || ((leb 67 k && ltb k (68 + 2 * getD l 67 0))
+    || ((leb 324 k && ltb k (325 + 2 * getD l 324 0))
+    || (leb 1349 k && ltb k (1350 + 3 * getD l 1349 0))))

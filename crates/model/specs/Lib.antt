@@ -1,0 +1,9 @@
+pub mod Refusals
+pub mod Zero
+pub mod Spelling
+pub mod Table
+pub mod Numbers
+pub mod File
+pub mod Search
+pub mod Graph
+pub mod Operations

@@ -1,0 +1,67 @@
+-- Read and Write: which refusal applies first, or the result.
+use Prim.Native.Nat.{ℕ}
+use mathlib.Core.List.{List}
+use mathlib.Core.Bool.{cond}
+use lib.ListN.{length}
+use lib.Seq.{sets}
+use lib.Dec.{ltb}
+use Rattle.model.specs.declared.Refusal.{Refusal}
+use Rattle.model.specs.declared.Refusal.the-variants as refusal
+use Rattle.model.specs.declared.Verdict.{Verdict}
+use Rattle.model.specs.declared.Verdict.the-variants as verdict
+use Rattle.model.specs.declared.Fields.{Fields}
+use Rattle.model.specs.declared.Fields.the-variants as fields
+use Rattle.model.specs.declared.Problem.{Problem}
+use Rattle.model.specs.declared.ReadAnswer.{ReadAnswer}
+use Rattle.model.specs.declared.WriteAnswer.{WriteAnswer}
+use Rattle.model.specs.declared.WriteAnswer.the-variants as write
+use Rattle.model.specs.Zero.{zeroProblem}
+use Rattle.model.specs.Numbers.{numbersOf, problemOf}
+use Rattle.model.specs.File.{readFields, checkFields, fileBytes}
+use Rattle.model.specs.Graph.{judgeGraph}
+
+-- Read's answer; beside a refusal the problem is all zero.
+abbrev pub unread : Refusal → ReadAnswer
+unread f = record { verdict = verdict.Refused f; problem = zeroProblem }
+
+abbrev pub readVerdict : Verdict → Problem → ReadAnswer
+readVerdict verdict.Accepted p = record { verdict = verdict.Accepted; problem = p }
+readVerdict (verdict.Refused f) p = unread f
+
+-- After the fields: 5, bytes left over; then the graph.
+abbrev pub readRest : ℕ → Fields → List ℕ → ReadAnswer
+readRest size (fields.Done at) l =
+    cond (ltb at size) (unread (refusal.LeftOver at)) (readVerdict (judgeGraph (problemOf l)) (problemOf l))
+readRest size (fields.Refused f) l = unread f
+
+-- **Read.**
+unfoldable pub readFile : List ℕ → ReadAnswer
+readFile s = readRest (length s) (readFields s .answer) (readFields s .numbers)
+
+-- A problem's own checks, as in Write through 9, with the length of its file: every operation on a problem begins with these.
+abbrev pub afterGraph : Verdict → ℕ → Fields
+afterGraph verdict.Accepted need = fields.Done need
+afterGraph (verdict.Refused f) need = fields.Refused f
+
+abbrev pub afterFields : Fields → Problem → Fields
+afterFields (fields.Done need) p = afterGraph (judgeGraph p) need
+afterFields (fields.Refused f) p = fields.Refused f
+
+unfoldable pub checkProblem : Problem → Fields
+checkProblem p = afterFields (checkFields (numbersOf p)) p
+
+-- **Write** into a buffer of `room` bytes: the problem's checks, then 10, the buffer is too short.
+abbrev pub writeChecked : Fields → ℕ → WriteAnswer
+writeChecked (fields.Done need) room = cond (ltb room need) (write.Refused (refusal.ShortBuffer need)) (write.Written need)
+writeChecked (fields.Refused f) room = write.Refused f
+
+unfoldable pub writeProblem : Problem → ℕ → WriteAnswer
+writeProblem p room = writeChecked (checkProblem p) room
+
+-- What the buffer holds afterwards: the file, and past it what it held; on a refusal all that it held.
+abbrev pub afterWrite : WriteAnswer → Problem → List ℕ → List ℕ
+afterWrite (write.Written n) p buf = sets buf 0 (fileBytes (numbersOf p))
+afterWrite (write.Refused f) p buf = buf
+
+abbrev pub writtenBuffer : Problem → List ℕ → List ℕ
+writtenBuffer p buf = afterWrite (writeProblem p (length buf)) p buf
