@@ -12,6 +12,7 @@ use Rattle.model.specs.declared.Field.{Field}
 use Rattle.model.specs.declared.Fields.{Fields}
 use Rattle.model.specs.declared.Fields.the-variants.{Done, Refused}
 use Rattle.model.specs.Spelling.{readNumber, numberSize, numberBytes}
+use Rattle.model.specs.Numbers.{table}
 use Rattle.model.specs.Table.{least, greatest, base, kind, jump, countOver}
 
 -- The most numbers that a file has.
@@ -29,38 +30,40 @@ firstField = record { row = 0; place = 0; left = 0 }
 abbrev pub atEnd : Field → Bool
 atEnd c = leb 15 (c .row)
 
--- The next field after v stands at c. A count opens its list, or passes it by where it is 0; an item's last number leads to the next item, or past its list.
-abbrev pub nextInItem : Field → Field
-nextInItem c = record { row = c .row + 1; place = c .place + 1; left = c .left }
-
-abbrev pub openList : Field → ℕ → Field
-openList c v = record { row = c .row + 1; place = c .place + 1; left = v - 1 }
-
-abbrev pub nextItem : Field → Field
-nextItem c = record { row = jump (c .row); place = c .place + 1; left = c .left - 1 }
-
+-- Where a row begins.
 abbrev pub rowStart : ℕ → Field
 rowStart row = record { row = row; place = base row; left = 0 }
 
+-- A count opens its list, or passes it by where it is 0.
+unfoldable pub afterCount : Field → ℕ → Field
+afterCount c v = cond (eqb v 0) (rowStart (jump (c .row))) (record { row = c .row + 1; place = c .place + 1; left = v - 1 })
+
+-- An item's last number leads to the next item, or past its list.
+unfoldable pub afterItem : Field → Field
+afterItem c =
+    cond (eqb (c .left) 0) (rowStart (c .row + 1)) (record { row = jump (c .row); place = c .place + 1; left = c .left - 1 })
+
+-- The field after c, at which v stands.
 unfoldable pub nextField : Field → ℕ → Field
 nextField c v =
-    cond (eqb (kind (c .row)) 1)
-    (cond (eqb v 0) (rowStart (jump (c .row))) (openList c v))
-    (cond (eqb (kind (c .row)) 4)
-    (cond (eqb (c .left) 0) (rowStart (c .row + 1)) (nextItem c))
-    (nextInItem c))
+    cond (eqb (kind (c .row)) 1) (afterCount c v)
+    (cond (eqb (kind (c .row)) 4) (afterItem c)
+    (record { row = c .row + 1; place = c .place + 1; left = c .left }))
 
--- Whether v may stand at c, where l has the numbers before it: within its row, below the count that narrows the row, and for a loop's last
--- vertex not below the header just before it.
+-- Where a count read earlier narrows the row: v stays below it.
+unfoldable pub belowCount : List ℕ → ℕ → ℕ → Bool
+belowCount l row v = eqb (countOver row) 0 || ltb v (getD l (countOver row) 0)
+
+-- A loop's last vertex is not below its header, the number just before it.
+unfoldable pub fromHeader : List ℕ → Field → ℕ → Bool
+fromHeader l c v = not (eqb (c .row) 13) || leb (getD l (c .place - 1) 0) v
+
+-- Whether v may stand at c, where l has the numbers before it.
 unfoldable pub inRange : List ℕ → Field → ℕ → Bool
-inRange l c v =
-    leb (least (c .row)) v
-    && (leb v (greatest (c .row))
-    && ((eqb (countOver (c .row)) 0 || ltb v (getD l (countOver (c .row)) 0))
-    && (not (eqb (c .row) 13) || leb (getD l (c .place - 1) 0) v)))
+inRange l c v = leb (least (c .row)) v && (leb v (greatest (c .row)) && (belowCount l (c .row) v && fromHeader l c v))
 
 -- Edges ascend strictly by (from, to).
-abbrev pub edgeBefore : ℕ → ℕ → ℕ → ℕ → Bool
+unfoldable pub edgeBefore : ℕ → ℕ → ℕ → ℕ → Bool
 edgeBefore from to from′ to′ = ltb from from′ || (eqb from from′ && ltb to to′)
 
 -- Whether the item whose last number stands at c may follow the item before it. Edges ascend, loops ascend by header; other items have no order.
@@ -71,7 +74,7 @@ ascends l c =
     (cond (eqb (c .row) 14) (ltb (getD l (c .place - 5) 0) (getD l (c .place - 2) 0)) true))
 
 -- Where the item that c belongs to starts, if c stands at a position and `start` was said of the field before.
-abbrev pub itemStart : Field → ℕ → ℕ → ℕ
+unfoldable pub itemStart : Field → ℕ → ℕ → ℕ
 itemStart c at start = cond (eqb (kind (c .row)) 2) at start
 
 -- What reading the fields leaves: the answer, and the numbers as far as they were read.
@@ -134,3 +137,7 @@ inUse l k =
     || ((leb 67 k && ltb k (68 + 2 * getD l 67 0))
     || ((leb 324 k && ltb k (325 + 2 * getD l 324 0))
     || (leb 1349 k && ltb k (1350 + 3 * getD l 1349 0))))
+
+-- A problem's numbers with every spare place zero.
+unfoldable pub cleared : List ℕ → List ℕ
+cleared l = table numberCount (λ k. cond (inUse l k) (getD l k 0) 0)

@@ -8,13 +8,21 @@ use Rattle.model.specs.declared.Refusal.{Refusal}
 use Rattle.model.specs.declared.Refusal.the-variants.{LacksEdge, BadRange, WrongEdge, NoReturn}
 use Rattle.model.specs.declared.Verdict.{Verdict}
 use Rattle.model.specs.declared.Verdict.the-variants.{Accepted, Refused}
+use Rattle.model.specs.declared.Function.{Function}
+use Rattle.model.specs.declared.Vertex.{Vertex}
 use Rattle.model.specs.declared.Edge.{Edge}
 use Rattle.model.specs.declared.Loop.{Loop}
 use Rattle.model.specs.declared.Problem.{Problem}
 use Rattle.model.specs.Zero.{zeroEdge, zeroLoop}
 use Rattle.model.specs.Search.{lowestBelow, existsBelow}
 
--- A problem's edges and loops, without the spare places.
+-- A problem's lists, without the spare places.
+abbrev pub functionsOf : Problem → List Function
+functionsOf p = take (p .«function_count») (p .functions)
+
+abbrev pub verticesOf : Problem → List Vertex
+verticesOf p = take (p .«vertex_count») (p .vertices)
+
 abbrev pub edgesOf : Problem → List Edge
 edgesOf p = take (p .«edge_count») (p .edges)
 

@@ -1,5 +1,6 @@
 -- Read and Write: which refusal applies first, or the result.
 use Prim.Native.Nat.{ℕ}
+use mathlib.Core.Path.{_≡_}
 use mathlib.Core.List.{List}
 use mathlib.Core.Bool.{cond}
 use lib.ListN.{length}
@@ -17,8 +18,8 @@ use Rattle.model.specs.declared.WriteAnswer.{WriteAnswer}
 use Rattle.model.specs.declared.WriteAnswer.the-variants as write
 use Rattle.model.specs.Zero.{zeroProblem}
 use Rattle.model.specs.Numbers.{numbersOf, problemOf}
-use Rattle.model.specs.File.{readFields, checkFields, fileBytes}
-use Rattle.model.specs.Graph.{judgeGraph}
+use Rattle.model.specs.File.{readFields, checkFields, fileBytes, cleared}
+use Rattle.model.specs.Graph.{functionsOf, verticesOf, edgesOf, loopsOf, judgeGraph}
 
 -- Read's answer; beside a refusal the problem is all zero.
 abbrev pub unread : Refusal → ReadAnswer
@@ -37,6 +38,22 @@ readRest size (fields.Refused f) l = unread f
 -- **Read.**
 unfoldable pub readFile : List ℕ → ReadAnswer
 readFile s = readRest (length s) (readFields s .answer) (readFields s .numbers)
+
+-- The same problem: equal but for spare places, which are no part of it.
+pub record SameProblem (p q : Problem) : Type 0 where
+  pub scratchpad : p .scratchpad ≡ q .scratchpad
+  pub «function_count» : p .«function_count» ≡ q .«function_count»
+  pub functions : functionsOf p ≡ functionsOf q
+  pub «vertex_count» : p .«vertex_count» ≡ q .«vertex_count»
+  pub vertices : verticesOf p ≡ verticesOf q
+  pub «edge_count» : p .«edge_count» ≡ q .«edge_count»
+  pub edges : edgesOf p ≡ edgesOf q
+  pub «loop_count» : p .«loop_count» ≡ q .«loop_count»
+  pub loops : loopsOf p ≡ loopsOf q
+
+-- The problem with every spare place zero.
+abbrev pub clearedProblem : Problem → Problem
+clearedProblem p = problemOf (cleared (numbersOf p))
 
 -- A problem's own checks, as in Write through 9, with the length of its file: every operation on a problem begins with these.
 abbrev pub afterGraph : Verdict → ℕ → Fields

@@ -1,0 +1,1 @@
+// Laws of a problem's numbers that passed the checks field by field: the facts that hold of them, and what filling leaves of them.

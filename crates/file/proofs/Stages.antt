@@ -1,0 +1,119 @@
+-- Read and Write, stage by stage: what each function returns is what the definition says for the stage that it stops at.
+use Prim.Native.Nat.{ℕ, _≤_, _<_}
+use mathlib.Core.Path.{_≡_, refl, sym, ap, _∙_}
+use mathlib.Core.List.{List}
+use mathlib.Core.Bool.{cond}
+use native.Mathlib.Omega.{arith}
+use lib.ListN.{length, replicate}
+use lib.Seq.{sets}
+use lib.Dec.{ltb}
+use borrow.Author.Tests.{lt-ltb, le-ltb}
+use Rattle.model.specs.declared.Refusal.{Refusal}
+use Rattle.model.specs.declared.Refusal.the-variants as refusal
+use Rattle.model.specs.declared.Verdict.{Verdict}
+use Rattle.model.specs.declared.Verdict.the-variants as verdict
+use Rattle.model.specs.declared.Fields.{Fields}
+use Rattle.model.specs.declared.Fields.the-variants as fields
+use Rattle.model.specs.declared.Problem.{Problem}
+use Rattle.model.specs.declared.ReadAnswer.{ReadAnswer}
+use Rattle.model.specs.declared.WriteAnswer.{WriteAnswer}
+use Rattle.model.specs.declared.WriteAnswer.the-variants as write
+use Rattle.model.specs.Zero.{zeroProblem}
+use Rattle.model.specs.Numbers.{numbersOf, problemOf}
+use Rattle.model.specs.File.{Scan, scanned, readFields, checkFields, fileBytes}
+use Rattle.model.specs.Graph.{judgeGraph}
+use Rattle.model.specs.Operations.{unread, readVerdict, readRest, readFile, afterGraph, afterFields, checkProblem, writeChecked, writeProblem, afterWrite, writtenBuffer}
+use Rattle.numbers.specs.Numbered.{Numbered}
+use Rattle.numbers.proofs.Inverse.{problem-of-numbers}
+use Rattle.scan.specs.Answers.{Fits}
+use Rattle.file.specs.Steps.{refusalIn, checkNumbers}
+
+-- Read, where the fields left the answer f and the numbers l.
+module _ (s : List ℕ) (f : Fields) (l : List ℕ) (is : scanned f l ≡ readFields s) where
+  rest : (g : Fields) → f ≡ g → readRest (length s) g l ≡ readFile s
+  unfolding readFile
+  rest g e = ap (λ (x : Fields). readRest (length s) x l) (sym e) ∙ ap (λ (x : Scan). readRest (length s) (x .answer) (x .numbers)) is
+
+  pub read-refused : (r x : Refusal) → f ≡ fields.Refused r → x ≡ refusalIn f → (a : ReadAnswer) → a ≡ unread x → a ≡ readFile s
+  unfolding refusalIn
+  read-refused r x e q a is-a = is-a ∙ ap unread (q ∙ ap refusalIn e) ∙ rest _ e
+
+  module _ (end : ℕ) (e : f ≡ fields.Done end) where
+    pub left-over : end < length s → (a : ReadAnswer) → a ≡ unread (refusal.LeftOver end) → a ≡ readFile s
+    left-over h a is-a = is-a ∙ simp (lt-ltb end (length s) h) at (rest _ e)
+
+    module _ (h : length s ≤ end) (v : Verdict) (judged : v ≡ judgeGraph (problemOf l)) where
+      at-graph : (w : Verdict) → v ≡ w → readVerdict w (problemOf l) ≡ readFile s
+      at-graph w q = ap (λ (x : Verdict). readVerdict x (problemOf l)) (sym q ∙ judged) ∙ simp (le-ltb end (length s) h) at (rest _ e)
+
+      pub bad-graph : (r : Refusal) → v ≡ verdict.Refused r → (p : Problem) → p ≡ zeroProblem → record { verdict = v; problem = p } ≡ readFile s
+      bad-graph r q p z = rw (q, z) (at-graph _ q)
+
+      pub read-whole : v ≡ verdict.Accepted → (p : Problem) → p ≡ problemOf l → record { verdict = verdict.Accepted; problem = p } ≡ readFile s
+      read-whole q p z = rw z (at-graph _ q)
+
+-- A problem's checks, where the fields gave the answer f.
+module _ (l : List ℕ) (f : Fields) (is : f ≡ checkFields l) where
+  checks : (g : Fields) → f ≡ g → afterFields g (problemOf l) ≡ checkNumbers l
+  unfolding checkNumbers
+  checks g e = ap (λ (x : Fields). afterFields x (problemOf l)) (sym e ∙ is)
+
+  pub bad-fields : (r : Refusal) → f ≡ fields.Refused r → f ≡ checkNumbers l
+  bad-fields r e = e ∙ checks _ e
+
+  pub after-graph : (need : ℕ) → f ≡ fields.Done need → (v : Verdict) → v ≡ judgeGraph (problemOf l) → (w : Verdict) → v ≡ w → afterGraph w need ≡ checkNumbers l
+  after-graph need e v judged w q = ap (λ (x : Verdict). afterGraph x need) (sym q ∙ judged) ∙ checks _ e
+
+no-refusal : {P : Type 0} {r : Refusal} {n : ℕ} → fields.Refused r ≡ fields.Done n → P
+no-refusal e = let q : _≡_ {A = ℕ} 0 1 = cc in let z : ⊥ = omega arith in elim z [ ]
+
+-- Checks that end well began well.
+fields-good : (f : Fields) (p : Problem) (need : ℕ) → afterFields f p ≡ fields.Done need → f ≡ fields.Done need
+fields-good (fields.Done n) p need e = graph-good (judgeGraph p) e
+  where
+    graph-good : (v : Verdict) → afterGraph v n ≡ fields.Done need → fields.Done n ≡ fields.Done need
+    graph-good verdict.Accepted q = q
+    graph-good (verdict.Refused r) q = no-refusal q
+fields-good (fields.Refused r) p need e = no-refusal e
+
+-- Write, where the problem's numbers are l, its checks gave f, and the buffer holds buf.
+module _ (p : Problem) (l buf : List ℕ) (numbered : Numbered p l) (f : Fields) (is : f ≡ checkNumbers l) where
+  checked : f ≡ checkProblem p
+  unfolding checkNumbers checkProblem
+  checked = is ∙ rw (numbered .is) (ap (afterFields (checkFields (numbersOf p))) (problem-of-numbers p (numbered .sized)))
+
+  writes : (g : Fields) → f ≡ g → writeChecked g (length buf) ≡ writeProblem p (length buf)
+  unfolding writeProblem
+  writes g e = ap (λ (x : Fields). writeChecked x (length buf)) (sym e ∙ checked)
+
+  holds : (a : WriteAnswer) → a ≡ writeProblem p (length buf) → afterWrite a p buf ≡ writtenBuffer p buf
+  holds a e = ap (λ (x : WriteAnswer). afterWrite x p buf) e
+
+  pub not-written : (r x : Refusal) → f ≡ fields.Refused r → x ≡ refusalIn f →
+      (write.Refused x ≡ writeProblem p (length buf)) × (buf ≡ writtenBuffer p buf)
+  unfolding refusalIn
+  not-written r x e q =
+      let a : write.Refused x ≡ writeProblem p (length buf) = ap write.Refused (q ∙ ap refusalIn e) ∙ writes _ e in
+      (a, holds _ a)
+
+  module _ (need : ℕ) (e : f ≡ fields.Done need) where
+    pub too-short : length buf < need → (write.Refused (refusal.ShortBuffer need) ≡ writeProblem p (length buf)) × (buf ≡ writtenBuffer p buf)
+    too-short h =
+        let a : write.Refused (refusal.ShortBuffer need) ≡ writeProblem p (length buf) = simp (lt-ltb (length buf) need h) at (writes _ e) in
+        (a, holds _ a)
+
+    good : checkFields l ≡ fields.Done need
+    unfolding checkNumbers
+    good = fields-good (checkFields l) (problemOf l) need (sym is ∙ e)
+
+    module _ (h : need ≤ length buf) where
+      pub fits : Fits l buf
+      fits = record { need = need; checked = good; room = h }
+
+      pub written : (n : ℕ) (after : List ℕ) → fields.Done n ≡ checkFields l → after ≡ sets buf 0 (fileBytes l) →
+          (write.Written n ≡ writeProblem p (length buf)) × (after ≡ writtenBuffer p buf)
+      written n after d w =
+          let same : fields.Done n ≡ fields.Done need = d ∙ good in
+          let count : n ≡ need = cc in
+          let a : write.Written n ≡ writeProblem p (length buf) = rw count (simp (le-ltb (length buf) need h) at (writes _ e)) in
+          (a, w ∙ ap (λ (x : List ℕ). sets buf 0 (fileBytes x)) (numbered .is) ∙ holds _ a)

@@ -1,0 +1,48 @@
+-- `check` meets its definition: the fields, then the graph.
+use mathlib.Core.Path.{sym, _∙_}
+use Rattle.file.proofs.Counts.{counted}
+use Rattle.file.proofs.Stages.{bad-fields, after-graph}
+use borrow.Author.Needs.{needs}
+use Rattle.file.proofs.check.Statement.{statement}
+use Rattle.file.proofs.check.Tie as tie
+
+check-fields-requires : tie.Need-check-fields-requires
+check-fields-requires c κs = search needs
+
+enum-known-fields : tie.Need-enum-known-fields
+enum-known-fields c = search needs
+
+enum-told : tie.Need-enum-told
+enum-told c = search needs
+
+returns : tie.Need-returns
+returns c = bad-fields _ _ (c .before .before .check-fields .ensures) _ (c .enum-told .given .1)
+
+judge-requires : tie.Need-judge-requires
+judge-requires c κs = counted _ _ (sym (c .before .before .before .check-fields .ensures) ∙ c .before .fields .given .1)
+
+enum-told-2 : tie.Need-enum-told-2
+enum-told-2 c = search needs
+
+enum-known-graph : tie.Need-enum-known-graph
+enum-known-graph c = search needs
+
+returns-2 : tie.Need-returns-2
+returns-2 c = after-graph _ _ (c .before .before .before .before .before .before .check-fields .ensures) _ (c .before .before .before .before .fields .given .1) _ (c .before .before .judge .ensures) _ (c .enum-told2 .given .1)
+
+returns-3 : tie.Need-returns-3
+returns-3 c = after-graph _ _ (c .before .before .before .before .before .before .before .check-fields .ensures) _ (c .before .before .before .before .before .fields .given .1) _ (c .before .before .before .judge .ensures) _ (c .before .graph .given .1)
+
+pub check-spec : {M : Type 1} → statement M
+check-spec =
+    tie.close
+    (tie.spec
+    check-fields-requires
+    enum-known-fields
+    enum-told
+    returns
+    judge-requires
+    enum-told-2
+    enum-known-graph
+    returns-2
+    returns-3)

@@ -1,0 +1,87 @@
+// Read and Write: the problem file and the problem in memory.
+use model::Fields;
+use model::Problem;
+use model::ReadAnswer;
+use model::Refusal;
+use model::Verdict;
+use model::WriteAnswer;
+ghost use mathlib.Core.Path.{_≡_};
+ghost use lib.ListN.{length};
+ghost use Rattle.model.specs.Operations.{unread, readFile, writeProblem, writtenBuffer};
+ghost use Rattle.file.specs.Steps.{refusalIn, checkNumbers};
+
+// The refusal that an answer holds.
+fn refusal_in(answer: Fields) -> Refusal
+    ensures { λ r. ⌜ r ≡ refusalIn answer ⌝ }
+{
+    match answer {
+        Fields::Refused(refusal) => refusal,
+        Fields::Done(at) => Refusal::Ended(at as u64),
+    }
+}
+
+// Read's answer for a refusal.
+fn not_read(refusal: Refusal) -> ReadAnswer
+    ensures { λ r. ⌜ r ≡ unread refusal ⌝ }
+{
+    ReadAnswer {
+        verdict: Verdict::Refused(refusal),
+        problem: numbers::zero_problem(),
+    }
+}
+
+// **Read.** The problem that the bytes are the file of, with every spare place zero, or the first refusal that applies.
+pub fn read(bytes: &[u8]) -> ReadAnswer
+    ensures { λ r. ⌜ r ≡ readFile (now (bytes .entry)) ⌝ }
+{
+    let mut numbers = [0u64; 1446];
+    let fields = scan::read_fields(bytes, &mut numbers);
+    let Fields::Done(end) = fields else {
+        return not_read(refusal_in(fields));
+    };
+    if end < bytes.len() {
+        return not_read(Refusal::LeftOver(end as u64));
+    }
+    let graph = graph::judge(&numbers);
+    let Verdict::Accepted = graph else {
+        return ReadAnswer {
+            verdict: graph,
+            problem: numbers::zero_problem(),
+        };
+    };
+    ReadAnswer {
+        verdict: Verdict::Accepted,
+        problem: numbers::problem_of(&numbers),
+    }
+}
+
+// A problem's own checks, on its numbers: the length of its file, or the first refusal of 3, 4 and 6 to 9.
+pub fn check(numbers: &[u64; 1446]) -> Fields
+    ensures { λ r. ⌜ r ≡ checkNumbers (now (numbers .entry)) ⌝ }
+{
+    let fields = scan::check_fields(numbers);
+    let Fields::Done(need) = fields else {
+        return fields;
+    };
+    let graph = graph::judge(numbers);
+    match graph {
+        Verdict::Accepted => Fields::Done(need),
+        Verdict::Refused(refusal) => Fields::Refused(refusal),
+    }
+}
+
+// **Write.** Writes the problem's file at the front of the buffer, or refuses and leaves the buffer as it is.
+pub fn write(problem: Problem, buf: &mut [u8]) -> WriteAnswer
+    ensures { λ r. ⌜ r ≡ writeProblem problem (length (now (buf .entry))) ⌝ ∗ ⌜ now (buf .exit) ≡ writtenBuffer problem (now (buf .entry)) ⌝ }
+{
+    let numbers = numbers::numbers_of(problem);
+    let checked = check(&numbers);
+    let Fields::Done(need) = checked else {
+        return WriteAnswer::Refused(refusal_in(checked));
+    };
+    if buf.len() < need {
+        return WriteAnswer::Refused(Refusal::ShortBuffer(need as u64));
+    }
+    let written = scan::write_fields(buf, &numbers);
+    WriteAnswer::Written(written)
+}

@@ -1,0 +1,4 @@
+pub mod Lists
+pub mod Search
+pub mod Rules
+pub mod Facts

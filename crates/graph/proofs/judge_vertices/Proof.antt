@@ -1,0 +1,59 @@
+-- `graph::judge_vertices` refuses at the lowest vertex that lacks an edge.
+use Rattle.model.specs.declared.Refusal.the-variants.{LacksEdge}
+use Prim.Native.Nat.{_-_}
+use native.Mathlib.Omega.{arith}
+use borrow.Author.Needs.{needs}
+use Rattle.model.specs.Graph.{lacks}
+use Rattle.graph.specs.Counts.{verticesIn, edgesIn}
+use Rattle.graph.proofs.Search.{Searched, start, miss, broken-hit, broken-none}
+use Rattle.graph.proofs.judge_vertices.Statement.{statement}
+use Rattle.graph.proofs.judge_vertices.Tie as tie
+
+abbrev Inv-loop : tie.InvT-loop
+Inv-loop l count v₀ v = Searched (verticesIn l) (lacks (verticesIn l) (edgesIn l)) v
+
+abbrev μ-loop : tie.MeasureT-loop
+μ-loop l count v₀ v = count - v
+
+vertex-count-requires : tie.Need-vertex-count-requires Inv-loop μ-loop
+vertex-count-requires c κs = search needs
+
+loop-holds : tie.Need-loop-holds Inv-loop μ-loop
+loop-holds c = start _ _
+
+lacks-edge-requires : tie.Need-lacks-edge-requires Inv-loop μ-loop
+lacks-edge-requires c κs = search needs
+
+returns : tie.Need-returns Inv-loop μ-loop
+returns c =
+    broken-hit (c .before .before .before .loop .inv) (omega arith) LacksEdge
+    (rw (← c .before .lacks-edge .ensures) (c .if1 .taken))
+
+add-v : tie.Need-add-v Inv-loop μ-loop
+add-v c = search needs
+
+loop-less : tie.Need-loop-less Inv-loop μ-loop
+loop-less c = search needs
+
+loop-again : tie.Need-loop-again Inv-loop μ-loop
+loop-again c =
+    miss (c .before .before .before .loop .inv) (omega arith)
+    (rw (← c .before .lacks-edge .ensures) (c .if1 .left))
+
+returns-2 : tie.Need-returns-2 Inv-loop μ-loop
+returns-2 c = broken-none (c .before .loop .inv) (omega arith) LacksEdge
+
+pub judge-vertices-spec : {M : Type 1} → statement M
+judge-vertices-spec =
+    tie.close
+    (tie.spec
+    Inv-loop
+    μ-loop
+    vertex-count-requires
+    loop-holds
+    lacks-edge-requires
+    returns
+    add-v
+    loop-less
+    loop-again
+    returns-2)

@@ -1,0 +1,26 @@
+-- `graph::loop_header` reads the place that the loop's header stands at.
+use mathlib.Core.Path.{sym, ap}
+use native.Mathlib.Omega.{arith}
+use Rattle.model.specs.declared.Loop.{Loop}
+use Rattle.graph.proofs.Lists.{loop-below, loop-at}
+use Rattle.graph.proofs.loop_header.Statement.{statement}
+use Rattle.graph.proofs.loop_header.Tie as tie
+
+mul-result : tie.Need-mul-result
+mul-result c = omega (arith, loop-below _ (c .pre .0) _ (c .pre .1))
+
+add-result : tie.Need-add-result
+add-result c = omega (arith, loop-below _ (c .pre .0) _ (c .pre .1))
+
+mul-result-2 : tie.Need-mul-result-2
+mul-result-2 c = omega (arith, loop-below _ (c .pre .0) _ (c .pre .1))
+
+element-copy-out-result : tie.Need-element-copy-out-result
+element-copy-out-result c = omega (arith, loop-below _ (c .pre .0) _ (c .pre .1))
+
+returns : tie.Need-returns
+returns c = ap (λ (x : Loop). x .header) (sym (loop-at _ (c .before .pre .0) _ (c .before .pre .1)))
+
+pub loop-header-spec : {M : Type 1} → statement M
+loop-header-spec =
+    tie.close (tie.spec mul-result add-result mul-result-2 element-copy-out-result returns)

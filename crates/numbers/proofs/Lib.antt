@@ -1,0 +1,6 @@
+pub mod Lists
+pub mod Places
+pub mod Parts
+pub mod Items
+pub mod Inverse
+pub mod Assembled

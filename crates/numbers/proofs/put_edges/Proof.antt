@@ -1,0 +1,85 @@
+-- `put_edges` meets its contract. The loop's invariant: the numbers of the first i edges are stored.
+use Prim.Native.Nat.{_-_}
+use borrow.Author.Needs.{needs}
+use Rattle.model.specs.declared.Edge.{Edge}
+use Rattle.model.specs.Zero.{zeroEdge}
+use Rattle.model.specs.Numbers.{edgeNumbers}
+use Rattle.numbers.proofs.Places.{Storing, stored-none, stored-two, stored-all}
+use Rattle.numbers.proofs.put_edges.Statement.{statement}
+use Rattle.numbers.proofs.put_edges.Tie as tie
+
+abbrev Inv-loop : tie.InvT-loop
+Inv-loop l₀ edges i₀ l i = Storing edgeNumbers 512 325 edges l₀ i l
+
+abbrev μ-loop : tie.MeasureT-loop
+μ-loop l₀ edges i₀ l i = 512 - i
+
+loop-holds : tie.Need-loop-holds Inv-loop μ-loop
+loop-holds c = stored-none edgeNumbers 512 325 _ _ (search needs)
+
+mul-e : tie.Need-mul-e Inv-loop μ-loop
+mul-e c = search needs
+
+array-copy-out-e : tie.Need-array-copy-out-e Inv-loop μ-loop
+array-copy-out-e c = search needs
+
+mul-l : tie.Need-mul-l Inv-loop μ-loop
+mul-l c = search needs
+
+add-l : tie.Need-add-l Inv-loop μ-loop
+add-l c = search needs
+
+mul-l-2 : tie.Need-mul-l-2 Inv-loop μ-loop
+mul-l-2 c = search needs
+
+element-write-l : tie.Need-element-write-l Inv-loop μ-loop
+element-write-l c = search needs
+
+mul-l-3 : tie.Need-mul-l-3 Inv-loop μ-loop
+mul-l-3 c = search needs
+
+add-l-2 : tie.Need-add-l-2 Inv-loop μ-loop
+add-l-2 c = search needs
+
+mul-l-4 : tie.Need-mul-l-4 Inv-loop μ-loop
+mul-l-4 c = search needs
+
+element-write-l-2 : tie.Need-element-write-l-2 Inv-loop μ-loop
+element-write-l-2 c = search needs
+
+add-i : tie.Need-add-i Inv-loop μ-loop
+add-i c = search needs
+
+loop-less : tie.Need-loop-less Inv-loop μ-loop
+loop-less c = search needs
+
+loop-again : tie.Need-loop-again Inv-loop μ-loop
+loop-again c =
+    stored-two (λ (e : Edge). e .from) (λ (e : Edge). e .to) 512 325 _ _ _ zeroEdge _
+    (c .before .loop-test .taken)
+    (c .before .before .loop .inv)
+
+returns : tie.Need-returns Inv-loop μ-loop
+returns c = stored-all edgeNumbers 512 325 _ _ _ _ (c .loop-test .left) (c .before .loop .inv)
+
+pub put-edges-spec : {M : Type 1} → statement M
+put-edges-spec =
+    tie.close
+    (tie.spec
+    Inv-loop
+    μ-loop
+    loop-holds
+    mul-e
+    array-copy-out-e
+    mul-l
+    add-l
+    mul-l-2
+    element-write-l
+    mul-l-3
+    add-l-2
+    mul-l-4
+    element-write-l-2
+    add-i
+    loop-less
+    loop-again
+    returns)

@@ -1,0 +1,150 @@
+-- What the judgement of a field looks at: among the numbers before it the two counts that narrow ranges, and the items of its own list.
+use Prim.Native.Nat.{ℕ, _+_, _-_, _≤_, _<_}
+use mathlib.Core.Path.{_≡_, sym, _∙_}
+use mathlib.Core.List.{List, [], _∷_}
+use native.Mathlib.Omega.{arith}
+use lib.ListN.{length, getD, set}
+use lib.Seq.{getD-set-same, getD-set-other}
+use lib.Dec.{eqb}
+use borrow.Author.Tests.{eqb-true, eqb-false}
+use Rattle.model.specs.declared.Field.{Field}
+use Rattle.model.specs.Table.{bases, kinds, jumps, counts, base, jump, countOver}
+use Rattle.model.specs.File.{rowStart, afterCount, afterItem, nextField, belowCount, fromHeader, inRange, ascends}
+use Rattle.fields.specs.Valid.{Valid, field}
+use Rattle.fields.proofs.Rows.{by-bool}
+
+-- Where the items of each row's list begin; a row that is no item's begins by itself.
+unfoldable pub itemBases : List ℕ
+itemBases = 0 ∷ 1 ∷ 2 ∷ 3 ∷ 3 ∷ 67 ∷ 68 ∷ 68 ∷ 324 ∷ 325 ∷ 325 ∷ 1349 ∷ 1350 ∷ 1350 ∷ 1350 ∷ 1446 ∷ []
+
+abbrev pub itemBase : ℕ → ℕ
+itemBase row = getD itemBases row 0
+
+-- Place k is looked at from the field c on.
+pub record Seen (c : Field) (k : ℕ) : Type 0 where
+  pub below : k < c .place
+  pub counts : (k ≡ 2 → ⊥) → (k ≡ 67 → ⊥) → itemBase (c .row) ≤ k
+
+-- Two lists that no judgement from c on tells apart.
+abbrev pub Alike : Field → List ℕ → List ℕ → Type 0
+Alike c l m = (k : ℕ) → Seen c k → getD l k 0 ≡ getD m k 0
+
+-- Two lists with the same numbers before place n.
+abbrev pub Agree : ℕ → List ℕ → List ℕ → Type 0
+Agree n l m = (k : ℕ) → k < n → getD l k 0 ≡ getD m k 0
+
+pub alike-below : (c : Field) (l m : List ℕ) → Agree (c .place) l m → Alike c l m
+alike-below c l m same k s = same k (s .below)
+
+-- Where the places are that a valid field's judgement looks at.
+record Looks (c : Field) : Type 0 where
+  count : 0 < countOver (c .row) → Seen c (countOver (c .row))
+  header : c .row ≡ 13 → Seen c (c .place - 1)
+  edge : c .row ≡ 10 → (c .place ≡ base (c .row) → ⊥) → (j : ℕ) → 0 < j → j ≤ 3 → Seen c (c .place - j)
+  loop : c .row ≡ 14 → (c .place ≡ base (c .row) → ⊥) → (j : ℕ) → 0 < j → j ≤ 5 → Seen c (c .place - j)
+
+looks : {c : Field} → Valid c → Looks c
+unfolding bases counts itemBases
+looks Valid.edition = omega arith
+looks Valid.scratchpad = omega arith
+looks Valid.functions = omega arith
+looks (Valid.size i left f) = omega arith
+looks (Valid.load i left f) = omega arith
+looks Valid.vertices = omega arith
+looks (Valid.function i left f) = omega arith
+looks (Valid.cost i left f) = omega arith
+looks Valid.edges = omega arith
+looks (Valid.from i left f) = omega arith
+looks (Valid.to i left f) = omega arith
+looks Valid.loops = omega arith
+looks (Valid.header i left f) = omega arith
+looks (Valid.last i left f) = omega arith
+looks (Valid.bound i left f) = omega arith
+looks Valid.end = omega arith
+
+module _ (l m : List ℕ) where
+  count-agrees : (row v : ℕ) → (0 < countOver row → getD l (countOver row) 0 ≡ getD m (countOver row) 0) → belowCount l row v ≡ belowCount m row v
+  unfolding belowCount
+  count-agrees row v h =
+      by-bool (eqb (countOver row) 0) (λ e. simp e) (λ e. rw (h (omega (arith, eqb-false (countOver row) 0 e))))
+
+  header-agrees : (c : Field) (v : ℕ) → (c .row ≡ 13 → getD l (c .place - 1) 0 ≡ getD m (c .place - 1) 0) → fromHeader l c v ≡ fromHeader m c v
+  unfolding fromHeader
+  header-agrees c v h = by-bool (eqb (c .row) 13) (λ e. rw (h (eqb-true (c .row) 13 e))) (λ e. simp e)
+
+  module _ {c : Field} (f : Valid c) (same : Alike c l m) where
+    pub range-agrees : (v : ℕ) → inRange l c v ≡ inRange m c v
+    unfolding inRange
+    range-agrees v =
+        let o : Looks c = looks f in
+        rw (
+          count-agrees (c .row) v (λ h. same (countOver (c .row)) (o .count h)),
+          header-agrees c v (λ h. same (c .place - 1) (o .header h)),
+        )
+
+    -- The order of a later item looks at the item before it.
+    module _ (later : c .place ≡ base (c .row) → ⊥) where
+      edge-agrees : c .row ≡ 10 → (j : ℕ) → 0 < j → j ≤ 3 → getD l (c .place - j) 0 ≡ getD m (c .place - j) 0
+      edge-agrees r j h k = same (c .place - j) (looks f .edge r later j h k)
+
+      loop-agrees : c .row ≡ 14 → (j : ℕ) → 0 < j → j ≤ 5 → getD l (c .place - j) 0 ≡ getD m (c .place - j) 0
+      loop-agrees r j h k = same (c .place - j) (looks f .loop r later j h k)
+
+    pub ascends-agrees : getD l (c .place) 0 ≡ getD m (c .place) 0 → ascends l c ≡ ascends m c
+    unfolding ascends
+    ascends-agrees here =
+        by-bool (eqb (c .place) (base (c .row))) (λ e. simp e)
+        (λ e. by-bool (eqb (c .row) 10)
+        (λ q. let at = edge-agrees (eqb-false (c .place) (base (c .row)) e) (eqb-true (c .row) 10 q) in
+        simp (e, q, at 3 (omega arith) (omega arith), at 2 (omega arith) (omega arith), at 1 (omega arith) (omega arith), here))
+        (λ q. by-bool (eqb (c .row) 14)
+        (λ r. let at = loop-agrees (eqb-false (c .place) (base (c .row)) e) (eqb-true (c .row) 14 r) in
+        simp (e, q, r, at 5 (omega arith) (omega arith), at 2 (omega arith) (omega arith)))
+        (λ r. simp (e, q, r))))
+
+-- From c to d no place but c's own comes into sight, neither of the two counts nor among the items.
+record Steps (c d : Field) : Type 0 where
+  functions : 2 < d .place → 2 ≤ c .place
+  vertices : 67 < d .place → 67 ≤ c .place
+  items : (k : ℕ) → itemBase (d .row) ≤ k → k < d .place → (k ≡ c .place → ⊥) → (itemBase (c .row) ≤ k) × (k < c .place)
+
+seen-before : (c d : Field) → Steps c d → (k : ℕ) → Seen d k → (k ≡ c .place → ⊥) → Seen c k
+seen-before c d h k s n =
+    by-bool (eqb k 2) (λ e. let q = eqb-true k 2 e in record { below = omega (arith, h .functions (omega arith)); counts = λ a b. absurd (a q) })
+    (λ e. by-bool (eqb k 67) (λ t. let q = eqb-true k 67 t in record { below = omega (arith, h .vertices (omega arith)); counts = λ a b. absurd (b q) })
+    (λ t. let i = h .items k (s .counts (eqb-false k 2 e) (eqb-false k 67 t)) (s .below) n in record { below = i .1; counts = λ a b. i .0 }))
+
+after-count : (c : Field) (v : ℕ) → Steps c (rowStart (jump (c .row))) → Steps c (field (c .row + 1) (c .place + 1) (v - 1)) → Steps c (afterCount c v)
+unfolding afterCount
+after-count c v none some = by-bool (eqb v 0) (λ e. rw e none) (λ e. rw e some)
+
+after-item : (c : Field) → Steps c (rowStart (c .row + 1)) → Steps c (field (jump (c .row)) (c .place + 1) (c .left - 1)) → Steps c (afterItem c)
+unfolding afterItem
+after-item c none some = by-bool (eqb (c .left) 0) (λ e. rw e none) (λ e. rw e some)
+
+next-steps : {c : Field} → Valid c → c .row < 15 → (v : ℕ) → Steps c (nextField c v)
+unfolding nextField bases kinds jumps itemBases
+next-steps Valid.edition h v = omega arith
+next-steps Valid.scratchpad h v = omega arith
+next-steps Valid.functions h v = after-count _ v (omega arith) (omega arith)
+next-steps (Valid.size i left f) h v = omega arith
+next-steps (Valid.load i left f) h v = after-item _ (omega arith) (omega arith)
+next-steps Valid.vertices h v = after-count _ v (omega arith) (omega arith)
+next-steps (Valid.function i left f) h v = omega arith
+next-steps (Valid.cost i left f) h v = after-item _ (omega arith) (omega arith)
+next-steps Valid.edges h v = after-count _ v (omega arith) (omega arith)
+next-steps (Valid.from i left f) h v = omega arith
+next-steps (Valid.to i left f) h v = after-item _ (omega arith) (omega arith)
+next-steps Valid.loops h v = after-count _ v (omega arith) (omega arith)
+next-steps (Valid.header i left f) h v = omega arith
+next-steps (Valid.last i left f) h v = omega arith
+next-steps (Valid.bound i left f) h v = after-item _ (omega arith) (omega arith)
+next-steps Valid.end h v = absurd (omega arith)
+
+-- Two lists alike from c on, with the same number put at c, are alike from the next field on.
+pub alike-next : {c : Field} → Valid c → c .row < 15 → (v : ℕ) (l m : List ℕ) → c .place < length m → Alike c l m → getD l (c .place) 0 ≡ v →
+    Alike (nextField c v) l (set m (c .place) v)
+alike-next {c} f h v l m b same here k s =
+    by-bool (eqb k (c .place))
+    (λ e. let q = eqb-true k (c .place) e in rw q (here ∙ sym (getD-set-same m (c .place) v 0 b)))
+    (λ e. let n = eqb-false k (c .place) e in same k (seen-before c (nextField c v) (next-steps f h v) k s n) ∙ sym (getD-set-other m (c .place) k v 0 n))

@@ -1,0 +1,73 @@
+-- Reading looks at no byte past the longest file's.
+use Prim.Native.Nat.{ℕ, zero, suc, _+_, _*_, _≤_, _<_}
+use mathlib.Core.Path.{_≡_, refl, ap}
+use mathlib.Core.List.{List}
+use mathlib.Core.Bool.{false}
+use native.Mathlib.Omega.{arith}
+use lib.Dec.{leb}
+use lib.ListN.{length, take, set, replicate}
+use lib.Seq.{length-take-le, take-all}
+use borrow.Author.Tests.{lt-ltb, leb-true, leb-false}
+use Rattle.model.specs.declared.Number.{Number}
+use Rattle.model.specs.declared.Number.the-variants.{Value, Ended, Misspelt}
+use Rattle.model.specs.declared.Field.{Field}
+use Rattle.model.specs.declared.Fields.{Fields}
+use Rattle.model.specs.declared.Fields.the-variants.{Done, Refused}
+use Rattle.model.specs.Spelling.{readNumber}
+use Rattle.model.specs.File.{numberCount, readLength, firstField, atEnd, nextField, itemStart, Scan, scanned, readFrom}
+use Rattle.model.specs.Operations.{readRest, readFile}
+use Rattle.fields.proofs.Rows.{by-bool}
+use Rattle.spelling.proofs.Prefix.{number-prefix, number-ends, never-ended}
+use Rattle.roundtrip.proofs.Turns.{Reads, reads}
+
+-- Reading ends at most five bytes on for each field.
+reads-near : {s : List ℕ} {n at start : ℕ} {c : Field} {l : List ℕ} {end : ℕ} {m : List ℕ} → Reads s n at start c l end m → end ≤ at + 5 * n
+reads-near Reads.none = omega arith
+reads-near (Reads.over e) = omega arith
+reads-near {s} {at} (Reads.on v next e q r a more) = omega (arith, reads-near more, number-ends s at v next q)
+
+module _ (s : List ℕ) (k : ℕ) (cut : k ≤ length s) where
+  abbrev Same : ℕ → ℕ → ℕ → Field → List ℕ → Type 0
+  Same n at start c l = readFrom n (take k s) at start c l ≡ readFrom n s at start c l
+
+  number-same : (n at start : ℕ) (c : Field) (l : List ℕ) → at + 5 ≤ k → atEnd c ≡ false →
+      ((v next : ℕ) → readNumber s at ≡ Value v next → Same n next (itemStart c at start) (nextField c v) (set l (c .place) v)) →
+      (r : Number) → readNumber s at ≡ r → Same (suc n) at start c l
+  unfolding readFrom
+  number-same n at start c l room e more (Value v next) q = simp (e, number-prefix s k at room cut, q, more v next q)
+  number-same n at start c l room e more Ended q = absurd (never-ended s at (omega arith) q)
+  number-same n at start c l room e more Misspelt q = simp (e, number-prefix s k at room cut, q)
+
+  scan-prefix : (n at start : ℕ) (c : Field) (l : List ℕ) → at + 5 * n < k → Same n at start c l
+  unfolding readFrom
+  scan-prefix zero at start c l room = refl
+  scan-prefix (suc n) at start c l room =
+      by-bool (atEnd c) (λ e. simp e)
+      (λ e. number-same n at start c l (omega arith) e
+      (λ v next q. scan-prefix n next (itemStart c at start) (nextField c v) (set l (c .place) v) (omega (arith, number-ends s at v next q)))
+      (readNumber s at) refl)
+
+  -- Where reading is done before k, bytes are left over in both.
+  rest-same : (a : Fields) (l : List ℕ) → ((at : ℕ) → a ≡ Done at → at < k) → readRest k a l ≡ readRest (length s) a l
+  rest-same (Done at) l below =
+      let h : at < k = below at refl in
+      simp (lt-ltb at k h, lt-ltb at (length s) (omega arith))
+  rest-same (Refused f) l below = refl
+
+  fields-same : (n : ℕ) (z : List ℕ) → 5 * n < k →
+      readRest (length (take k s)) (readFrom n (take k s) 0 0 firstField z .answer) (readFrom n (take k s) 0 0 firstField z .numbers)
+      ≡ readRest (length s) (readFrom n s 0 0 firstField z .answer) (readFrom n s 0 0 firstField z .numbers)
+  fields-same n z room =
+      let x : Scan = readFrom n s 0 0 firstField z in
+      rw (scan-prefix n 0 0 firstField z (omega arith), length-take-le k s cut)
+      (rest-same (x .answer) (x .numbers)
+      (λ at q. let e : x ≡ scanned (Done at) (x .numbers) = ap (λ (a : Fields). scanned a (x .numbers)) q in
+      omega (arith, reads-near (reads s at (x .numbers) n 0 0 firstField z e))))
+
+-- A file cut off after the bytes that reading may look at is read alike.
+pub read-prefix : (s : List ℕ) (k : ℕ) → readLength ≤ k → readFile (take k s) ≡ readFile s
+unfolding readFile
+read-prefix s k far =
+    by-bool (leb k (length s))
+    (λ e. fields-same s k (leb-true k (length s) e) numberCount (replicate numberCount 0) (omega arith))
+    (λ e. ap readFile (take-all k s (omega (arith, leb-false k (length s) e))))

@@ -1,0 +1,113 @@
+// The problem file field by field: read into a problem's numbers, judged as it would be written, and written.
+use model::Field;
+use model::Fields;
+use model::Number;
+use model::Refusal;
+ghost use mathlib.Core.Path.{_≡_};
+ghost use Prim.Native.Nat.{ℕ, _+_, _≤_, _<_};
+ghost use lib.ListN.{length};
+ghost use lib.Seq.{sets};
+ghost use Rattle.model.specs.File.{numberCount, firstField, scanned, readFrom, checkFields, fileBytes};
+ghost use Rattle.scan.specs.Answers.{misread, Fits};
+
+fn first_field() -> Field
+    ensures { λ r. ⌜ r ≡ firstField ⌝ }
+{
+    Field {
+        row: 0,
+        place: 0,
+        left: 0,
+    }
+}
+
+// 1, the bytes end before a number does; 2, a misspelt number.
+fn misread_at(number: Number, size: usize, at: usize) -> Fields
+    ensures { λ r. ⌜ r ≡ misread number size at ⌝ }
+{
+    match number {
+        Number::Value(_, next) => Fields::Done(next),
+        Number::Ended => Fields::Refused(Refusal::Ended(size as u64)),
+        Number::Misspelt => Fields::Refused(Refusal::Misspelt(at as u64)),
+    }
+}
+
+// Reads the fields into `numbers`.
+pub fn read_fields(bytes: &[u8], numbers: &mut [u64; 1446]) -> Fields
+    ensures { λ r. ⌜ scanned r (now (numbers .exit)) ≡ readFrom numberCount (now (bytes .entry)) 0 0 firstField (now (numbers .entry)) ⌝ }
+{
+    let mut field = first_field();
+    let mut at: usize = 0;
+    let mut start: usize = 0;
+    let mut count: usize = 0;
+    while count < 1446 {
+        if 15 <= field.row {
+            return Fields::Done(at);
+        }
+        let number = spelling::read_number(bytes, at);
+        let Number::Value(value, next) = number else {
+            return misread_at(number, bytes.len(), at);
+        };
+        if !fields::in_range(numbers, field, value) {
+            return Fields::Refused(Refusal::OutOfRange(at as u64));
+        }
+        let place = field.place;
+        numbers[place] = value;
+        start = fields::item_start(field, at, start);
+        if !fields::ascends(numbers, field) {
+            return Fields::Refused(Refusal::NotAscending(start as u64));
+        }
+        field = fields::next_field(field, value);
+        at = next;
+        count += 1;
+    }
+    Fields::Done(at)
+}
+
+// Judges numbers as a file of them would be read, placed by the bytes that they would be written as.
+pub fn check_fields(numbers: &[u64; 1446]) -> Fields
+    ensures { λ r. ⌜ r ≡ checkFields (now (numbers .entry)) ⌝ }
+{
+    let mut field = first_field();
+    let mut at: usize = 0;
+    let mut start: usize = 0;
+    let mut count: usize = 0;
+    while count < 1446 {
+        if 15 <= field.row {
+            return Fields::Done(at);
+        }
+        let place = field.place;
+        let value = numbers[place];
+        if !fields::in_range(numbers, field, value) {
+            return Fields::Refused(Refusal::OutOfRange(at as u64));
+        }
+        start = fields::item_start(field, at, start);
+        if !fields::ascends(numbers, field) {
+            return Fields::Refused(Refusal::NotAscending(start as u64));
+        }
+        field = fields::next_field(field, value);
+        at += spelling::number_size(value);
+        count += 1;
+    }
+    Fields::Done(at)
+}
+
+// Writes the file of numbers that were judged good, and answers its length.
+pub fn write_fields(buf: &mut [u8], numbers: &[u64; 1446]) -> usize
+    requires { ⌜ Fits (now numbers) (now buf) ⌝ }
+    ensures { λ r. ⌜ Fields.Done r ≡ checkFields (now (numbers .entry)) ⌝ ∗ ⌜ now (buf .exit) ≡ sets (now (buf .entry)) 0 (fileBytes (now (numbers .entry))) ⌝ }
+{
+    let mut field = first_field();
+    let mut at: usize = 0;
+    let mut count: usize = 0;
+    while count < 1446 {
+        if 15 <= field.row {
+            return at;
+        }
+        let place = field.place;
+        let value = numbers[place];
+        at = spelling::write_number(buf, at, value);
+        field = fields::next_field(field, value);
+        count += 1;
+    }
+    at
+}

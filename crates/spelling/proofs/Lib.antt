@@ -1,0 +1,5 @@
+pub mod Cases
+pub mod Reading
+pub mod Laws
+pub mod RoundTrip
+pub mod Prefix
