@@ -1,0 +1,36 @@
+-- Going by cases on a test, with what the test tells in each case; conjunctions of tests.
+use Prim.Native.Nat.{ℕ, suc, _+_, _-_, _≤_, _<_}
+use mathlib.Core.Path.{_≡_, refl}
+use mathlib.Core.Bool.{Bool, true, false, cond, _&&_, _||_, not}
+use native.Mathlib.Omega.{arith}
+use lib.Dec.{ltb}
+use borrow.Author.Tests.{ltb-true, ltb-false}
+
+pub by-bool : {P : Type 0} (t : Bool) → (t ≡ true → P) → (t ≡ false → P) → P
+by-bool true f g = f refl
+by-bool false f g = g refl
+
+pub by-order : {P : Type 0} (a b : ℕ) → (a < b → P) → (b ≤ a → P) → P
+by-order a b f g = by-bool (ltb a b) (λ e. f (ltb-true a b e)) (λ e. g (ltb-false a b e))
+
+pub by-cond : {A : Type 0} (P : A → Type 0) {x y : A} (t : Bool) → (t ≡ true → P x) → (t ≡ false → P y) → P (cond t x y)
+by-cond P true f g = f refl
+by-cond P false f g = g refl
+
+pub by-less : {A : Type 0} (P : A → Type 0) {x y : A} (a b : ℕ) → (a < b → P x) → (b ≤ a → P y) → P (cond (ltb a b) x y)
+by-less P a b f g = by-cond P (ltb a b) (λ e. f (ltb-true a b e)) (λ e. g (ltb-false a b e))
+
+pub true-not-false : {P : Type 0} → true ≡ false → P
+true-not-false e = let q : _≡_ {A = ℕ} 0 1 = cc in let z : ⊥ = omega arith in elim z [ ]
+
+pub and-left : (a b : Bool) → (a && b) ≡ true → a ≡ true
+and-left true b e = refl
+and-left false b e = e
+
+pub and-right : (a b : Bool) → (a && b) ≡ true → b ≡ true
+and-right true b e = e
+and-right false b e = let z : _≡_ {A = ℕ} 0 1 = cc in let w : ⊥ = omega arith in elim w [ ]
+
+-- The turns that are left of a loop from i to n.
+pub left-of : (i n : ℕ) → i < n → n - i ≡ suc (n - (i + 1))
+left-of i n h = omega arith

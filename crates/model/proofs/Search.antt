@@ -1,0 +1,85 @@
+-- Laws of the search for the lowest number that passes a test: what a loop `while i < n` that stops at the first hit knows at each point, and what
+-- its answer says of the numbers below n.
+use Prim.Native.Nat.{ℕ, zero, suc, _+_, _-_, _≤_, _<_}
+use mathlib.Core.Path.{_≡_, refl, sym, ap, _∙_}
+use mathlib.Core.Bool.{Bool, true, false, cond}
+use native.Mathlib.Omega.{arith}
+use native.Mathlib.Nat.{sub-zero}
+use lib.Dec.{eqb}
+use borrow.Author.Tests.{lt-ltb, le-ltb, ltb-true, ltb-false, eqb-true, eqb-false}
+use Rattle.model.specs.declared.Refusal.{Refusal}
+use Rattle.model.specs.declared.Verdict.the-variants.{Accepted, Refused}
+use Rattle.model.specs.Search.{lowestFrom, lowestBelow, existsBelow}
+use Rattle.model.specs.Graph.{broken}
+use Rattle.model.proofs.Cases.{by-bool}
+
+-- The numbers below i have been passed over: the search goes on as one from i on.
+pub record Searched (n : ℕ) (test : ℕ → Bool) (i : ℕ) : Type 0 where
+  pub within : i ≤ n
+  pub rest : lowestFrom (n - i) i test ≡ lowestFrom n 0 test
+
+module _ (n : ℕ) (test : ℕ → Bool) where
+  pub start : Searched n test 0
+  start = record { within = omega arith; rest = rw sub-zero }
+
+module _ {n : ℕ} {test : ℕ → Bool} {i : ℕ} (searched : Searched n test i) where
+  module _ (below : i < n) where
+    turn : cond (test i) i (lowestFrom (n - (i + 1)) (i + 1) test) ≡ lowestBelow n test
+    unfolding lowestFrom
+    turn = let left : n - i ≡ suc (n - (i + 1)) = omega arith in rw left at (searched .rest)
+
+    pub miss : test i ≡ false → Searched n test (i + 1)
+    miss e = record { within = omega arith; rest = rw e at turn }
+
+    pub hit : test i ≡ true → i ≡ lowestBelow n test
+    hit e = rw e at turn
+
+    pub exists-hit : test i ≡ true → true ≡ existsBelow n test
+    exists-hit e = sym (lt-ltb (lowestBelow n test) n (omega (arith, hit e)))
+
+    pub broken-hit : (refusal : ℕ → Refusal) → test i ≡ true → Refused (refusal i) ≡ broken n test refusal
+    broken-hit refusal e = rw (← exists-hit e, ← hit e)
+
+  module _ (over : n ≤ i) where
+    pub none : n ≡ lowestBelow n test
+    unfolding lowestFrom
+    none =
+        let left : n - i ≡ 0 = omega arith in
+        let end : i ≡ lowestBelow n test = rw left at (searched .rest) in
+        omega arith
+
+    pub exists-none : false ≡ existsBelow n test
+    exists-none = sym (le-ltb (lowestBelow n test) n (omega (arith, none)))
+
+    pub broken-none : (refusal : ℕ → Refusal) → Accepted ≡ broken n test refusal
+    broken-none refusal = rw (← exists-none)
+
+found-from : (left i : ℕ) (test : ℕ → Bool) → lowestFrom left i test < i + left → test (lowestFrom left i test) ≡ true
+unfolding lowestFrom
+found-from zero i test h = let z : ⊥ = omega arith in elim z [ ]
+found-from (suc left) i test h =
+    by-bool (test i)
+    (λ e. rw (e, e))
+    (λ e. rw e (found-from left (i + 1) test (let k : lowestFrom left (i + 1) test < i + suc left = rw e at h in omega arith)))
+
+missed-from : (left i : ℕ) (test : ℕ → Bool) → i + left ≤ lowestFrom left i test → (j : ℕ) → i ≤ j → j < i + left → test j ≡ false
+unfolding lowestFrom
+missed-from zero i test h j low high = let z : ⊥ = omega arith in elim z [ ]
+missed-from (suc left) i test h j low high =
+    by-bool (test i)
+    (λ e. let k : i + suc left ≤ i = rw e at h in let z : ⊥ = omega arith in elim z [ ])
+    (λ e.
+    let k : i + suc left ≤ lowestFrom left (i + 1) test = rw e at h in
+    by-bool (eqb i j)
+    (λ q. ap test (sym (eqb-true i j q)) ∙ e)
+    (λ q. missed-from left (i + 1) test (omega arith) j (omega (arith, eqb-false i j q)) (omega arith)))
+
+-- What the search's answer says.
+module _ (n : ℕ) (test : ℕ → Bool) where
+  pub some-below : existsBelow n test ≡ true → (i : ℕ) × (i < n) × (test i ≡ true)
+  some-below e =
+      let h : lowestBelow n test < n = ltb-true (lowestBelow n test) n e in
+      (lowestBelow n test, h, found-from n 0 test (omega arith))
+
+  pub none-below : existsBelow n test ≡ false → (i : ℕ) → i < n → test i ≡ false
+  none-below e i h = missed-from n 0 test (omega (arith, ltb-false (lowestBelow n test) n e)) i (omega arith) (omega arith)
