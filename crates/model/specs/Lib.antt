@@ -6,4 +6,12 @@ pub mod Numbers
 pub mod File
 pub mod Search
 pub mod Graph
+pub mod Walks
+pub mod Costs
+pub mod Layouts
+pub mod Interference
+pub mod Charges
+pub mod Runs
 pub mod Operations
+pub mod Verdicts
+pub mod Results

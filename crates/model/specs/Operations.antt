@@ -67,6 +67,12 @@ afterFields (fields.Refused f) p = fields.Refused f
 unfoldable pub checkProblem : Problem → Fields
 checkProblem p = afterFields (checkFields (numbersOf p)) p
 
+-- A problem's numbers that passed these checks, for what goes on with the good case.
+pub record Checked (l : List ℕ) : Type 0 where
+  pub need : ℕ
+  pub fields : checkFields l ≡ fields.Done need
+  pub graph : judgeGraph (problemOf l) ≡ verdict.Accepted
+
 -- **Write** into a buffer of `room` bytes: the problem's checks, then 10, the buffer is too short.
 abbrev pub writeChecked : Fields → ℕ → WriteAnswer
 writeChecked (fields.Done need) room = cond (ltb room need) (write.Refused (refusal.ShortBuffer need)) (write.Written need)

@@ -102,6 +102,44 @@ pub enum WriteAnswer {
     Refused(Refusal),
 }
 
+// Interference's result: the words filled.
+pub enum InterferenceAnswer {
+    Filled(usize),
+    Refused(Refusal),
+}
+
+// What Bound gives: bytes needed, number of contested vertices, sum of first loads, bound.
+pub struct Bound {
+    pub need: Bytes,
+    pub contested: usize,
+    pub first: Cycles,
+    pub bound: Cycles,
+}
+
+// Bound's result.
+pub enum BoundAnswer {
+    Bounded(Bound),
+    Refused(Refusal),
+}
+
+// What Run gives beside the regions: cycles, and the loads counted as they occur.
+pub struct Run {
+    pub cycles: Cycles,
+    pub loads: u64,
+}
+
+pub enum RunVerdict {
+    Ran(Run),
+    Refused(Refusal),
+}
+
+// Run's result, with the function held in each region, 255 for none. The regions stand beside the verdict as Read's problem does; beside a refusal
+// they are all zero.
+pub struct RunAnswer {
+    pub verdict: RunVerdict,
+    pub held: [u8; 32],
+}
+
 // The refusal's number in document 01.
 pub fn number_of(refusal: Refusal) -> u32
     ensures { λ r. ⌜ r ≡ number refusal ⌝ }

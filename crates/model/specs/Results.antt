@@ -1,0 +1,89 @@
+-- Interference, Bound and Run: what each gives.
+use Prim.Native.Nat.{ℕ, _+_, _*_, _/_, _%_, _^_, _≤_, _<_}
+use mathlib.Core.Path.{_≡_}
+use mathlib.Core.List.{List, [], _∷_, reverse}
+use mathlib.Core.Bool.{Bool}
+use mathlib.Core.Logic.{_⊎_, _↔_}
+use lib.ListN.{length, getD, replicate}
+use Rattle.model.specs.declared.Refusal.{Refusal}
+use Rattle.model.specs.declared.Refusal.the-variants.{PastLimit}
+use Rattle.model.specs.declared.Verdict.{Verdict}
+use Rattle.model.specs.declared.Verdict.the-variants as verdict
+use Rattle.model.specs.declared.Problem.{Problem}
+use Rattle.model.specs.declared.InterferenceAnswer.{InterferenceAnswer}
+use Rattle.model.specs.declared.InterferenceAnswer.the-variants as interference
+use Rattle.model.specs.declared.Bound.{Bound}
+use Rattle.model.specs.declared.BoundAnswer.{BoundAnswer}
+use Rattle.model.specs.declared.BoundAnswer.the-variants as bound
+use Rattle.model.specs.declared.RunVerdict.the-variants as run
+use Rattle.model.specs.declared.RunAnswer.{RunAnswer}
+use Rattle.model.specs.Zero.{cycles as cyclesOf}
+use Rattle.model.specs.Numbers.{table}
+use Rattle.model.specs.Costs.{functionOf, howMany}
+use Rattle.model.specs.Walks.{EdgeOf, lastVertex, Lawful, Greatest}
+use Rattle.model.specs.Layouts.{needOf}
+use Rattle.model.specs.Interference.{Interferes}
+use Rattle.model.specs.Charges.{Told, visitCharge, firstLoads, charges}
+use Rattle.model.specs.Runs.{cycles, loads, heldAfter}
+use Rattle.model.specs.Verdicts.{wordCount, judgeInterference, judgeBound, judgeRun}
+
+-- Bit g of a word is set.
+abbrev pub Member : ℕ → ℕ → Type 0
+Member word g = word / 2 ^ g % 2 ≡ 1
+
+-- **Interference**: word v × functions + f has bit g set for each member g of the set of v and f, and no other bit. Later words keep their values.
+pub record Sets (p : Problem) (words after : List ℕ) (count : ℕ) : Type 0 where
+  pub filled : count ≡ wordCount p
+  pub member : (v f g : ℕ) → v < p .«vertex_count» → f < p .«function_count» →
+      Member (getD after (v * p .«function_count» + f) 0) g ↔ Interferes (functionOf p) (EdgeOf p) v f g
+  pub later : (k : ℕ) → count ≤ k → getD after k 0 ≡ getD words k 0
+  pub long : length after ≡ length words
+
+abbrev pub InterferenceSays : Problem → List ℕ → List ℕ → InterferenceAnswer → Type 0
+InterferenceSays p words after (interference.Filled count) = (judgeInterference p (length words) ≡ verdict.Accepted) × Sets p words after count
+InterferenceSays p words after (interference.Refused f) = (judgeInterference p (length words) ≡ verdict.Refused f) × (after ≡ words)
+
+-- The bound's limit.
+abbrev pub boundLimit : ℕ
+boundLimit = 1000000000000000000
+
+-- **Bound**: the largest sum of visit charges over all lawful walks, plus the first loads. No lawful walk, of any length, from an empty scratchpad,
+-- has more simulated cycles.
+pub record BoundIs (p : Problem) (layout : List ℕ) (b : Bound) : Type 0 where
+  pub contested : ℕ → Bool
+  pub cold : ℕ → Bool
+  pub told : Told p layout contested cold
+  pub need-is : b .need .0 ≡ needOf p layout
+  pub contested-are : b .contested ≡ howMany (p .«vertex_count») contested
+  pub first-is : b .first .0 ≡ firstLoads p cold
+  pub greatest : ℕ
+  pub greatest-is : Greatest p (charges (visitCharge p contested)) greatest
+  pub bound-is : b .bound .0 ≡ greatest + firstLoads p cold
+  pub within-limit : b .bound .0 ≤ boundLimit
+  pub covers : (h : List ℕ) → Lawful p h → cycles p layout (lastVertex p ∷ h) ≤ b .bound .0
+
+-- 14: the bound passes its limit, since a lawful walk's visit charges and the first loads do.
+pub record PastTheLimit (p : Problem) (layout : List ℕ) : Type 0 where
+  pub contested : ℕ → Bool
+  pub cold : ℕ → Bool
+  pub told : Told p layout contested cold
+  pub past : List ℕ
+  pub lawful : Lawful p past
+  pub over : boundLimit < charges (visitCharge p contested) (lastVertex p ∷ past) + firstLoads p cold
+
+abbrev pub BoundSays : Problem → List ℕ → BoundAnswer → Type 0
+BoundSays p layout (bound.Bounded b) = (judgeBound p layout ≡ verdict.Accepted) × BoundIs p layout b
+BoundSays p layout (bound.Refused f) =
+    (judgeBound p layout ≡ verdict.Refused f) ⊎ ((judgeBound p layout ≡ verdict.Accepted) × (f ≡ PastLimit 0) × PastTheLimit p layout)
+
+-- **Run**: cycles, loads counted as they occur, and the function held in each region, 255 for none; beside a refusal the regions are all zero.
+abbrev pub runAfter : Verdict → Problem → List ℕ → List ℕ → RunAnswer
+runAfter verdict.Accepted p layout walk =
+    record {
+      verdict = run.Ran (record { cycles = cyclesOf (cycles p layout (reverse walk)); loads = loads p layout (reverse walk) });
+      held = table 32 (heldAfter p layout (reverse walk));
+    }
+runAfter (verdict.Refused f) p layout walk = record { verdict = run.Refused f; held = replicate 32 0 }
+
+unfoldable pub runWalk : Problem → List ℕ → List ℕ → RunAnswer
+runWalk p layout walk = runAfter (judgeRun p layout walk) p layout walk

@@ -1,0 +1,43 @@
+-- The graph: walks, stays and lawful walks. A walk is kept as a history, its latest vertex first, since what document 01 says of a visit looks back.
+use Prim.Native.Nat.{ℕ, _+_, _-_, _≤_}
+use mathlib.Core.Path.{_≡_}
+use mathlib.Core.List.{List, [], _∷_, List·Memᴰ}
+use mathlib.Core.Bool.{cond}
+use lib.Dec.{eqb}
+use Rattle.model.specs.declared.Edge.{Edge}
+use Rattle.model.specs.declared.Loop.{Loop}
+use Rattle.model.specs.declared.Problem.{Problem}
+use Rattle.model.specs.Graph.{holds, edgesOf, loopsOf}
+
+-- There is an edge from u to v.
+abbrev pub EdgeOf : Problem → ℕ → ℕ → Type 0
+EdgeOf p u v = List·Memᴰ (record { from = u; to = v }) (edgesOf p)
+
+-- The highest vertex is last.
+abbrev pub lastVertex : Problem → ℕ
+lastVertex p = p .«vertex_count» - 1
+
+-- A *walk* starts at vertex 0 and follows edges: it arrives at v, and h are the vertices visited before, the latest first.
+pub data Walk (Edge : ℕ → ℕ → Type 0) : ℕ → List ℕ → Type 0 where
+  start : Walk Edge 0 []
+  step : {u v : ℕ} {h : List ℕ} → Walk Edge u h → Edge u v → Walk Edge v (u ∷ h)
+
+-- A *stay* in a loop lasts from entering its range to leaving it: the visits to the header in the present stay, 0 outside the range.
+unfoldable pub visits : Loop → List ℕ → ℕ
+visits l [] = 0
+visits l (v ∷ h) = cond (holds l v) (visits l h + cond (eqb (l .header) v) 1 0) 0
+
+-- No stay visits its header more often than the bound.
+unfoldable pub Within : List Loop → List ℕ → Type 0
+Within ls [] = Unit {0}
+Within ls (v ∷ h) = ((l : Loop) → List·Memᴰ l ls → l .header ≡ v → visits l (v ∷ h) ≤ l .bound) × Within ls h
+
+-- A walk is *lawful* if it ends at the last vertex and no stay visits its header more often than the bound. h are the vertices before the last one.
+pub record Lawful (p : Problem) (h : List ℕ) : Type 0 where
+  pub walk : Walk (EdgeOf p) (lastVertex p) h
+  pub within : Within (loopsOf p) (lastVertex p ∷ h)
+
+-- m is the greatest sum of f over all lawful walks.
+pub record Greatest (p : Problem) (f : List ℕ → ℕ) (m : ℕ) : Type 0 where
+  pub above : (h : List ℕ) → Lawful p h → f (lastVertex p ∷ h) ≤ m
+  pub reached : (h : List ℕ) × Lawful p h × (f (lastVertex p ∷ h) ≡ m)
