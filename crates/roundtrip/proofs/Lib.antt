@@ -3,3 +3,6 @@ pub mod Turns
 pub mod Reading
 pub mod Writing
 pub mod Prefix
+pub mod Same
+pub mod Answers
+pub mod Trip
