@@ -46,7 +46,7 @@ module _ (size : ℕ) (l : List ℕ) (p : Problem) where
   whole (fields.Refused r) = unread-not r
 
 -- The checks of p are passed, and its file has `need` bytes.
-pub record Lawful (p : Problem) (need : ℕ) : Type 0 where
+pub record GoodProblem (p : Problem) (need : ℕ) : Type 0 where
   pub fields : checkFields (numbersOf p) ≡ fields.Done need
   pub graph : judgeGraph p ≡ verdict.Accepted
 
@@ -62,11 +62,11 @@ module _ (p : Problem) (need : ℕ) where
   past-fields (fields.Done n) e = past-graph (judgeGraph p) n e
   past-fields (fields.Refused r) e = refused-not r e
 
-  pub lawful : checkProblem p ≡ fields.Done need → Lawful p need
+  pub good-problem : checkProblem p ≡ fields.Done need → GoodProblem p need
   unfolding checkProblem
-  lawful e = let r = past-fields (checkFields (numbersOf p)) e in record { fields = r .0; graph = r .1 }
+  good-problem e = let r = past-fields (checkFields (numbersOf p)) e in record { fields = r .0; graph = r .1 }
 
-  pub is-checked : Lawful p need → checkProblem p ≡ fields.Done need
+  pub is-checked : GoodProblem p need → checkProblem p ≡ fields.Done need
   unfolding checkProblem
   is-checked r = rw (r .fields, r .graph)
 

@@ -25,7 +25,7 @@ use Rattle.roundtrip.proofs.Turns.{is-judged}
 use Rattle.roundtrip.proofs.Reading.{ReadBack, read-back, FileAgain, file-again}
 use Rattle.roundtrip.proofs.Writing.{ReadAgain, read-again}
 use Rattle.roundtrip.proofs.Same.{same-judged, same-checked}
-use Rattle.roundtrip.proofs.Answers.{Whole, whole, lawful, is-checked, Roomy, has-room}
+use Rattle.roundtrip.proofs.Answers.{Whole, whole, good-problem, is-checked, Roomy, has-room}
 
 -- Writing a lawful problem where there is room for it.
 module _ (p : Problem) (buf : List ℕ) (need : ℕ) (checked : checkProblem p ≡ Done need) (room : need ≤ length buf) where
@@ -113,21 +113,21 @@ module _ (s : List ℕ) (byte : (i : ℕ) → getD s i 0 < 256) where
 -- A lawful problem p, whose file has `need` bytes.
 module _ (p : Problem) (need : ℕ) (checked : checkProblem p ≡ Done need) where
   again : ReadAgain numberCount (replicate numberCount 0) (numbersOf p) need
-  again = read-again (numbersOf p) need (lawful p need checked .fields)
+  again = read-again (numbersOf p) need (good-problem p need checked .fields)
 
   pub file-length : need ≡ length (fileBytes (numbersOf p))
   file-length = again .ends
 
   scan-again : readFields (fileBytes (numbersOf p)) ≡ scanned (Done need) (cleared (numbersOf p))
-  scan-again = again .scan ∙ ap (scanned (Done need)) (fill-cleared (numbersOf p) need (lawful p need checked .fields))
+  scan-again = again .scan ∙ ap (scanned (Done need)) (fill-cleared (numbersOf p) need (good-problem p need checked .fields))
 
 module _ (p : Problem) (sized : Sized p) (need : ℕ) (checked : checkProblem p ≡ Done need) where
   -- Clearing its spare places leaves a lawful problem the same.
   pub same-cleared : SameProblem p (clearedProblem p)
-  same-cleared = same-checked p sized need (lawful p need checked .fields)
+  same-cleared = same-checked p sized need (good-problem p need checked .fields)
 
   graph-cleared : judgeGraph (clearedProblem p) ≡ Accepted
-  graph-cleared = sym (same-judged same-cleared) ∙ lawful p need checked .graph
+  graph-cleared = sym (same-judged same-cleared) ∙ good-problem p need checked .graph
 
   -- A lawful problem's file is read as the problem, with every spare place zero.
   pub write-then-read : readFile (fileBytes (numbersOf p)) ≡ record { verdict = Accepted; problem = clearedProblem p }
