@@ -8,20 +8,20 @@ use lib.ListN.{length, getD, replicate}
 use lib.Seq.{ext-getD}
 use Rattle.model.specs.declared.Fields.the-variants.{Done}
 use Rattle.model.specs.File.{numberCount, firstField, checkFields, inUse, cleared}
+use Rattle.model.proofs.Lists.{length-table, getD-table}
 use Rattle.fields.specs.Valid.{field}
 use Rattle.fields.specs.Fill.{fillFrom}
-use Rattle.numbers.proofs.Lists.{length-table, getD-table}
 use Rattle.facts.proofs.Reach.{Filled}
 use Rattle.facts.proofs.Walk.{finish}
 
 module _ (l : List ℕ) where
   pub cleared-length : length (cleared l) ≡ 1446
   unfolding cleared
-  cleared-length = length-table (λ (k : ℕ). cond (inUse l k) (getD l k 0) 0) 1446
+  cleared-length = length-table 1446 (λ (k : ℕ). cond (inUse l k) (getD l k 0) 0)
 
   pub cleared-at : (k : ℕ) → k < 1446 → getD (cleared l) k 0 ≡ cond (inUse l k) (getD l k 0) 0
   unfolding cleared
-  cleared-at k h = getD-table (λ (j : ℕ). cond (inUse l j) (getD l j 0) 0) 1446 k 0 h
+  cleared-at k h = getD-table 1446 (λ (j : ℕ). cond (inUse l j) (getD l j 0) 0) k 0 h
 
   pub cleared-used : (k : ℕ) → inUse l k ≡ true → k < 1446 → getD (cleared l) k 0 ≡ getD l k 0
   cleared-used k u h = cleared-at k h ∙ ap (λ (t : Bool). cond t (getD l k 0) 0) u

@@ -11,10 +11,10 @@ use borrow.Author.Tests.{eqb-true, eqb-false}
 use Rattle.model.specs.declared.Field.{Field}
 use Rattle.model.specs.Table.{base, kind, jump}
 use Rattle.model.specs.File.{rowStart, afterItem, inUse}
+use Rattle.model.proofs.Cases.{by-bool}
 use Rattle.fields.specs.Valid.{field}
-use Rattle.fields.proofs.Rows.{by-bool}
 use Rattle.fields.proofs.Laws.{empty-list, open-list, past-list, next-item, next-counted, next-ended, next-within}
-use Rattle.facts.proofs.Passed.{Passed}
+use Rattle.fields.proofs.OneField.{Passed}
 use Rattle.facts.proofs.Reach.{Reached, Gap, next, passed, step}
 
 -- A row that counts items, whose numbers have the next `width` rows, and the places that they use of those up to the next list's.

@@ -9,21 +9,18 @@ use lib.Dec.{leb}
 use borrow.Author.Tests.{ltb-true, leb-true}
 use Rattle.model.specs.declared.Field.{Field}
 use Rattle.model.specs.Table.{least, greatest, base, countOver}
-use Rattle.model.specs.File.{inRange, belowCount, fromHeader, ascends, edgeBefore}
-use Rattle.fields.proofs.Rows.{and-left, and-right}
+use Rattle.model.specs.File.{inRange, belowCount, fromHeader, edgeBefore}
+use Rattle.model.proofs.Cases.{and-left, and-right}
 use Rattle.fields.proofs.Laws.{under-count, after-header, edge-ascends, loop-ascends}
 use Rattle.fields.proofs.Steps.{in-row}
+use Rattle.fields.proofs.OneField.{Passed}
 
 module _ (l : List ℕ) where
-  pub record Passed (c : Field) : Type 0 where
-    pub in-range : inRange l c (getD l (c .place) 0) ≡ true
-    pub ascending : ascends l c ≡ true
-
   narrowed : (c : Field) (v : ℕ) → inRange l c v ≡ true → (belowCount l (c .row) v && fromHeader l c v) ≡ true
   unfolding inRange
   narrowed c v e = and-right (leb v (greatest (c .row))) _ (and-right (leb (least (c .row)) v) _ e)
 
-  module _ (p : ℕ) {c : Field} (at : c .place ≡ p) (ok : Passed c) where
+  module _ (p : ℕ) {c : Field} (at : c .place ≡ p) (ok : Passed l c) where
     pub in-limits : (least (c .row) ≤ getD l p 0) × (getD l p 0 ≤ greatest (c .row))
     in-limits = rw at at (in-row l c (getD l (c .place) 0) (ok .in-range))
 

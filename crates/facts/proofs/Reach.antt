@@ -6,29 +6,18 @@ use mathlib.Core.Bool.{Bool, true, false, cond}
 use native.Mathlib.Omega.{arith}
 use lib.ListN.{length, getD, set, replicate, length-set, length-replicate}
 use lib.Seq.{getD-set-same, getD-set-other}
-use lib.Dec.{eqb, ltb}
+use lib.Dec.{eqb}
 use borrow.Author.Count.{below-none}
-use borrow.Author.Tests.{eqb-true, eqb-false, ltb-true, ltb-false, lt-leb}
+use borrow.Author.Tests.{eqb-true, eqb-false, lt-leb}
 use Rattle.model.specs.declared.Field.{Field}
-use Rattle.model.specs.declared.Fields.{Fields}
-use Rattle.model.specs.declared.Fields.the-variants.{Done, Refused}
-use Rattle.model.specs.declared.Refusal.{Refusal}
+use Rattle.model.specs.declared.Fields.the-variants.{Done}
 use Rattle.model.specs.Spelling.{numberSize}
-use Rattle.model.specs.File.{firstField, numberCount, nextField, inRange, ascends, itemStart, inUse, checkFrom, checkFields}
+use Rattle.model.specs.File.{firstField, numberCount, nextField, itemStart, inUse, checkFrom, checkFields}
+use Rattle.model.proofs.Cases.{by-bool, by-order}
 use Rattle.fields.specs.Valid.{Valid, edition}
 use Rattle.fields.specs.Fill.{fillFrom}
-use Rattle.fields.proofs.Rows.{by-bool}
 use Rattle.fields.proofs.Steps.{placed, next-later, in-row}
-use Rattle.facts.proofs.Passed.{Passed}
-
-abbrev isDone : Fields → ℕ
-isDone (Done n) = 1
-isDone (Refused r) = 0
-
--- A check that ends well took the branch that goes on.
-went-on : (t : Bool) (a : Fields) (r : Refusal) (end : ℕ) → cond t a (Refused r) ≡ Done end → (t ≡ true) × (a ≡ Done end)
-went-on true a r end e = (refl, e)
-went-on false a r end e = let z : _≡_ {A = ℕ} 0 1 = ap isDone e in let w : ⊥ = omega arith in elim w [ ]
+use Rattle.fields.proofs.OneField.{Passed, checked, fill-on}
 
 zeros : (n k : ℕ) → getD {A = ℕ} (replicate n 0) k 0 ≡ 0
 zeros zero k = refl
@@ -49,21 +38,6 @@ module _ (l : List ℕ) where
     pub long : length m ≡ 1446
     pub below : (k : ℕ) → k < c .place → getD m k 0 ≡ cond (inUse l k) (getD l k 0) 0
     pub above : (k : ℕ) → c .place ≤ k → getD m k 0 ≡ 0
-
-  -- One field of a check that ends well.
-  checked : (n at start end : ℕ) (c : Field) → c .row < 15 → checkFrom (suc n) at start c l ≡ Done end →
-      Passed l c × (checkFrom n (at + numberSize (getD l (c .place) 0)) (itemStart c at start) (next c) l ≡ Done end)
-  unfolding checkFrom
-  checked n at start end c h e =
-      let f = went-on (inRange l c (getD l (c .place) 0)) _ _ end (rw (lt-leb 15 (c .row) h) at e) in
-      let g = went-on (ascends l c) _ _ end (f .1) in
-      (record { in-range = f .0; ascending = g .0 }, g .1)
-
-  -- One field of filling.
-  fills : (n : ℕ) (c : Field) (m : List ℕ) → c .row < 15 →
-      fillFrom (suc n) c l m ≡ fillFrom n (next c) l (set m (c .place) (getD l (c .place) 0))
-  unfolding fillFrom
-  fills n c m h = rw (lt-leb 15 (c .row) h)
 
   filled-next : (c : Field) (m : List ℕ) → Filled c m → (d : Field) → Gap c d → c .place < 1446 → c .place < d .place →
       Filled d (set m (c .place) (getD l (c .place) 0))
@@ -87,10 +61,10 @@ module _ (l : List ℕ) where
 
       below : (k : ℕ) → k < d .place → getD (set m p v) k 0 ≡ cond (inUse l k) (getD l k 0) 0
       below k q =
-          by-bool (ltb k p) (λ t. let lt = ltb-true k p t in kept k (omega (arith, lt)) ∙ f .below k lt) (λ t. let le = ltb-false k p t in
-          by-bool (eqb k p)
+          by-order k p (λ lt. kept k (omega arith) ∙ f .below k lt)
+          (λ le. by-bool (eqb k p)
           (λ u. subst (λ (j : ℕ). getD (set m p v) j 0 ≡ cond (inUse l j) (getD l j 0) 0) (sym (eqb-true k p u)) here)
-          (λ u. kept k (eqb-false k p u) ∙ f .above k le ∙ sym (unused k (omega (arith, le, eqb-false k p u)) q)))
+          (λ u. kept k (eqb-false k p u) ∙ f .above k le ∙ sym (unused k (omega (arith, eqb-false k p u)) q)))
 
   module _ (end : ℕ) where
     -- A field that the check comes to, with what is left of it and what filling has left by then.
@@ -125,7 +99,7 @@ module _ (l : List ℕ) where
     here : {c : Field} (r : Reached c) → c .row < 15 →
         Passed l c × (checkFrom (r .rest - 1) (r .at + numberSize (getD l (c .place) 0)) (itemStart c (r .at) (r .start)) (next c) l ≡ Done end)
     here {c} r h =
-        checked (r .rest - 1) (r .at) (r .start) end c h
+        checked l (r .rest - 1) (r .at) (r .start) end c h
         (subst (λ (n : ℕ). checkFrom n (r .at) (r .start) c l ≡ Done end) (more r h) (r .checking))
 
     pub passed : {c : Field} → Reached c → c .row < 15 → Passed l c
@@ -143,6 +117,6 @@ module _ (l : List ℕ) where
           valid = later .valid;
           enough = omega (arith, more r h, r .enough, later .higher);
           checking = rw e (here r h .1);
-          filling = r .filling ∙ ap (λ (n : ℕ). fillFrom n c l (r .filled)) (more r h) ∙ (rw e (fills (r .rest - 1) c (r .filled) h));
+          filling = r .filling ∙ ap (λ (n : ℕ). fillFrom n c l (r .filled)) (more r h) ∙ (rw e (fill-on (r .rest - 1) c l v (lt-leb 15 (c .row) h) refl (r .filled)));
           state = filled-next c (r .filled) (r .state) d g (placed (r .valid) h .place) (later .higher);
         }

@@ -9,7 +9,8 @@ use Rattle.model.specs.declared.Fields.the-variants.{Done}
 use Rattle.model.specs.Table.{limits, bases, kinds}
 use Rattle.model.specs.File.{nextField, checkFields}
 use Rattle.fields.specs.Valid.{field}
-use Rattle.facts.proofs.Passed.{Passed, in-limits}
+use Rattle.fields.proofs.OneField.{Passed}
+use Rattle.facts.proofs.Passed.{in-limits}
 use Rattle.facts.proofs.Reach.{Reached, first, passed, step}
 use Rattle.facts.proofs.Items.{beside, item, following}
 use Rattle.facts.proofs.Lists as lists

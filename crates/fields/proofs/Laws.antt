@@ -1,15 +1,15 @@
 -- The definitions that the functions on fields equal, case by case.
-use Prim.Native.Nat.{ℕ, zero, suc, _+_, _-_, _≤_, _<_}
-use mathlib.Core.Path.{_≡_, refl, sym, ap, _∙_}
+use Prim.Native.Nat.{ℕ, _+_, _-_, _≤_, _<_}
+use mathlib.Core.Path.{_≡_, sym, ap, _∙_}
 use mathlib.Core.List.{List}
-use mathlib.Core.Bool.{Bool, true, false, cond, not, _&&_, _||_, and-false}
+use mathlib.Core.Bool.{Bool, true, false}
 use native.Mathlib.Omega.{arith}
 use lib.ListN.{getD}
 use lib.Dec.{eqb, ltb, leb}
 use borrow.Author.Tests.{eq-eqb, ne-eqb, lt-ltb, le-ltb, lt-leb, le-leb}
 use Rattle.model.specs.declared.Field.{Field}
 use Rattle.model.specs.Table.{bases, base, kind, jump, countOver, least, greatest}
-use Rattle.model.specs.File.{rowStart, afterCount, afterItem, nextField, belowCount, fromHeader, inRange, edgeBefore, ascends, itemStart}
+use Rattle.model.specs.File.{afterCount, afterItem, nextField, belowCount, fromHeader, inRange, edgeBefore, ascends, itemStart}
 use Rattle.fields.proofs.Rows.{jump-below, count-below}
 
 pub jump-fits : (row to : ℕ) → row < 15 → to ≡ jump row → to < 16

@@ -1,12 +1,9 @@
 -- Read and Write, stage by stage: what each function returns is what the definition says for the stage that it stops at.
 use Prim.Native.Nat.{ℕ, _≤_, _<_}
-use mathlib.Core.Path.{_≡_, refl, sym, ap, _∙_}
+use mathlib.Core.Path.{_≡_, sym, ap, _∙_}
 use mathlib.Core.List.{List}
-use mathlib.Core.Bool.{cond}
-use native.Mathlib.Omega.{arith}
-use lib.ListN.{length, replicate}
+use lib.ListN.{length}
 use lib.Seq.{sets}
-use lib.Dec.{ltb}
 use borrow.Author.Tests.{lt-ltb, le-ltb}
 use Rattle.model.specs.declared.Refusal.{Refusal}
 use Rattle.model.specs.declared.Refusal.the-variants as refusal
@@ -23,6 +20,7 @@ use Rattle.model.specs.Numbers.{numbersOf, problemOf}
 use Rattle.model.specs.File.{Scan, scanned, readFields, checkFields, fileBytes}
 use Rattle.model.specs.Graph.{judgeGraph}
 use Rattle.model.specs.Operations.{unread, readVerdict, readRest, readFile, afterGraph, afterFields, checkProblem, writeChecked, writeProblem, afterWrite, writtenBuffer}
+use Rattle.model.proofs.Answers.{refused-not-done}
 use Rattle.numbers.specs.Numbered.{Numbered}
 use Rattle.numbers.proofs.Inverse.{problem-of-numbers}
 use Rattle.scan.specs.Answers.{Fits}
@@ -64,17 +62,14 @@ module _ (l : List ℕ) (f : Fields) (is : f ≡ checkFields l) where
   pub after-graph : (need : ℕ) → f ≡ fields.Done need → (v : Verdict) → v ≡ judgeGraph (problemOf l) → (w : Verdict) → v ≡ w → afterGraph w need ≡ checkNumbers l
   after-graph need e v judged w q = ap (λ (x : Verdict). afterGraph x need) (sym q ∙ judged) ∙ checks _ e
 
-no-refusal : {P : Type 0} {r : Refusal} {n : ℕ} → fields.Refused r ≡ fields.Done n → P
-no-refusal e = let q : _≡_ {A = ℕ} 0 1 = cc in let z : ⊥ = omega arith in elim z [ ]
-
 -- Checks that end well began well.
 fields-good : (f : Fields) (p : Problem) (need : ℕ) → afterFields f p ≡ fields.Done need → f ≡ fields.Done need
 fields-good (fields.Done n) p need e = graph-good (judgeGraph p) e
   where
     graph-good : (v : Verdict) → afterGraph v n ≡ fields.Done need → fields.Done n ≡ fields.Done need
     graph-good verdict.Accepted q = q
-    graph-good (verdict.Refused r) q = no-refusal q
-fields-good (fields.Refused r) p need e = no-refusal e
+    graph-good (verdict.Refused r) q = refused-not-done q
+fields-good (fields.Refused r) p need e = refused-not-done e
 
 -- Write, where the problem's numbers are l, its checks gave f, and the buffer holds buf.
 module _ (p : Problem) (l buf : List ℕ) (numbered : Numbered p l) (f : Fields) (is : f ≡ checkNumbers l) where

@@ -18,8 +18,10 @@ use Rattle.model.specs.Zero.{zeroEdge, zeroLoop}
 use Rattle.model.specs.Search.{existsBelow}
 use Rattle.model.specs.Graph as graph
 use Rattle.model.specs.Graph.{edge, loop, holds, broken, andThen, graphRules}
-use Rattle.graph.proofs.Lists.{mem-getD, index-of}
-use Rattle.graph.proofs.Search.{by-bool, some-below, none-below}
+use Rattle.model.proofs.Answers.{refused-not-accepted}
+use Rattle.model.proofs.Cases.{by-bool}
+use Rattle.model.proofs.Lists.{mem-getD, index-of}
+use Rattle.model.proofs.Search.{some-below, none-below}
 
 pub record GraphFacts (n : ℕ) (es : List Edge) (ls : List Loop) : Type 0 where
   pub entered : (v : ℕ) → 0 < v → v < n → (e : Edge) × List·Memᴰ e es × (e .from < v) × (e .to ≡ v)
@@ -38,16 +40,13 @@ or-false : (a b : Bool) → a || b ≡ false → (a ≡ false) × (b ≡ false)
 or-false true b e = absurd (true≢false e)
 or-false false b e = (refl, e)
 
-never : {P : Type 0} {f : Refusal} → Refused f ≡ Accepted → P
-never e = let q : _≡_ {A = ℕ} 0 1 = cc in let z : ⊥ = omega arith in elim z [ ]
-
 both : (v w : Verdict) → andThen v w ≡ Accepted → (v ≡ Accepted) × (w ≡ Accepted)
 both Accepted w e = (refl, e)
-both (Refused f) w e = never e
+both (Refused f) w e = refused-not-accepted e
 
 -- A rule that is not broken is broken nowhere.
 kept : (n : ℕ) (test : ℕ → Bool) (refusal : ℕ → Refusal) → broken n test refusal ≡ Accepted → (i : ℕ) → i < n → test i ≡ false
-kept n test refusal e i h = by-bool (existsBelow n test) (λ q. never (rw q at e)) (λ q. none-below n test q i h)
+kept n test refusal e i h = by-bool (existsBelow n test) (λ q. refused-not-accepted (rw q at e)) (λ q. none-below n test q i h)
 
 -- What is found at no index is found at no member, and what is found at an index is found at a member.
 module _ {A : Type 0} (d : A) (s : List A) (test : A → Bool) where

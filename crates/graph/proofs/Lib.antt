@@ -1,4 +1,3 @@
-pub mod Lists
-pub mod Search
+pub mod Places
 pub mod Rules
 pub mod Facts

@@ -1,7 +1,7 @@
 -- Going by cases on a test, with what the test tells in each case; conjunctions of tests.
 use Prim.Native.Nat.{ℕ, suc, _+_, _-_, _≤_, _<_}
-use mathlib.Core.Path.{_≡_, refl}
-use mathlib.Core.Bool.{Bool, true, false, cond, _&&_, _||_, not}
+use mathlib.Core.Path.{_≡_, refl, sym}
+use mathlib.Core.Bool.{Bool, true, false, cond, _&&_, true≢false}
 use native.Mathlib.Omega.{arith}
 use lib.Dec.{ltb}
 use borrow.Author.Tests.{ltb-true, ltb-false}
@@ -21,7 +21,7 @@ pub by-less : {A : Type 0} (P : A → Type 0) {x y : A} (a b : ℕ) → (a < b �
 by-less P a b f g = by-cond P (ltb a b) (λ e. f (ltb-true a b e)) (λ e. g (ltb-false a b e))
 
 pub true-not-false : {P : Type 0} → true ≡ false → P
-true-not-false e = let q : _≡_ {A = ℕ} 0 1 = cc in let z : ⊥ = omega arith in elim z [ ]
+true-not-false e = absurd (true≢false e)
 
 pub and-left : (a b : Bool) → (a && b) ≡ true → a ≡ true
 and-left true b e = refl
@@ -29,7 +29,7 @@ and-left false b e = e
 
 pub and-right : (a b : Bool) → (a && b) ≡ true → b ≡ true
 and-right true b e = e
-and-right false b e = let z : _≡_ {A = ℕ} 0 1 = cc in let w : ⊥ = omega arith in elim w [ ]
+and-right false b e = true-not-false (sym e)
 
 -- The turns that are left of a loop from i to n.
 pub left-of : (i n : ℕ) → i < n → n - i ≡ suc (n - (i + 1))

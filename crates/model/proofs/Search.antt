@@ -1,7 +1,7 @@
 -- Laws of the search for the lowest number that passes a test: what a loop `while i < n` that stops at the first hit knows at each point, and what
 -- its answer says of the numbers below n.
 use Prim.Native.Nat.{ℕ, zero, suc, _+_, _-_, _≤_, _<_}
-use mathlib.Core.Path.{_≡_, refl, sym, ap, _∙_}
+use mathlib.Core.Path.{_≡_, sym, ap, _∙_}
 use mathlib.Core.Bool.{Bool, true, false, cond}
 use native.Mathlib.Omega.{arith}
 use native.Mathlib.Nat.{sub-zero}

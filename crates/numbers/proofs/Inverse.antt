@@ -11,7 +11,7 @@ use Rattle.model.specs.declared.Loop.{Loop}
 use Rattle.model.specs.declared.Problem.{Problem}
 use Rattle.model.specs.Zero.{bytes, cycles, zeroFunction, zeroVertex, zeroEdge, zeroLoop}
 use Rattle.model.specs.Numbers.{functionNumbers, vertexNumbers, edgeNumbers, loopNumbers, table, functionAt, vertexAt, edgeAt, loopAt, numbersOf, problemOf, Sized}
-use Rattle.numbers.proofs.Lists.{length-table, is-table}
+use Rattle.model.proofs.Lists.{length-table, is-table}
 use Rattle.numbers.proofs.Parts.{functionPart, vertexPart, edgePart, loopPart, in-parts, Lengths, lengths}
 use Rattle.numbers.proofs.Items.{drop-behind, head-of, item-number, cons-drop, two-table, three-table}
 
@@ -24,10 +24,10 @@ pub sized-problem : (l : List ℕ) → Sized (problemOf l)
 unfolding problemOf
 sized-problem l =
     record {
-      functions = length-table (functionAt l) 32;
-      vertices = length-table (vertexAt l) 128;
-      edges = length-table (edgeAt l) 512;
-      loops = length-table (loopAt l) 32;
+      functions = length-table 32 (functionAt l);
+      vertices = length-table 128 (vertexAt l);
+      edges = length-table 512 (edgeAt l);
+      loops = length-table 32 (loopAt l);
     }
 
 -- What each list of numbers says of its items.
@@ -35,7 +35,7 @@ module _ (l : List ℕ) where
   functions-back : (xs : List Function) (ys : List ℕ) → length xs ≡ 32 → drop 3 l ≡ flatMap functionNumbers xs ++ ys → xs ≡ table 32 (functionAt l)
   functions-back xs ys long e =
       let number = item-number functionNumbers 2 (λ a. refl) l 3 xs ys e in
-      is-table (functionAt l) 32 zeroFunction xs long
+      is-table 32 (functionAt l) zeroFunction xs long
       (λ k h.
       sym
       (λ i.
@@ -47,7 +47,7 @@ module _ (l : List ℕ) where
   vertices-back : (xs : List Vertex) (ys : List ℕ) → length xs ≡ 128 → drop 68 l ≡ flatMap vertexNumbers xs ++ ys → xs ≡ table 128 (vertexAt l)
   vertices-back xs ys long e =
       let number = item-number vertexNumbers 2 (λ a. refl) l 68 xs ys e in
-      is-table (vertexAt l) 128 zeroVertex xs long
+      is-table 128 (vertexAt l) zeroVertex xs long
       (λ k h.
       sym
       (λ i.
@@ -59,7 +59,7 @@ module _ (l : List ℕ) where
   edges-back : (xs : List Edge) (ys : List ℕ) → length xs ≡ 512 → drop 325 l ≡ flatMap edgeNumbers xs ++ ys → xs ≡ table 512 (edgeAt l)
   edges-back xs ys long e =
       let number = item-number edgeNumbers 2 (λ a. refl) l 325 xs ys e in
-      is-table (edgeAt l) 512 zeroEdge xs long
+      is-table 512 (edgeAt l) zeroEdge xs long
       (λ k h.
       sym
       (λ i.
@@ -71,7 +71,7 @@ module _ (l : List ℕ) where
   loops-back : (xs : List Loop) (ys : List ℕ) → length xs ≡ 32 → drop 1350 l ≡ flatMap loopNumbers xs ++ ys → xs ≡ table 32 (loopAt l)
   loops-back xs ys long e =
       let number = item-number loopNumbers 3 (λ a. refl) l 1350 xs ys e in
-      is-table (loopAt l) 32 zeroLoop xs long
+      is-table 32 (loopAt l) zeroLoop xs long
       (λ k h.
       sym
       (λ i.

@@ -1,4 +1,4 @@
-pub mod Lists
+pub mod Filling
 pub mod Places
 pub mod Parts
 pub mod Items

@@ -1,5 +1,5 @@
 -- What the judgement of a field looks at: among the numbers before it the two counts that narrow ranges, and the items of its own list.
-use Prim.Native.Nat.{ℕ, _+_, _-_, _≤_, _<_}
+use Prim.Native.Nat.{ℕ, _-_, _≤_, _<_}
 use mathlib.Core.Path.{_≡_, sym, _∙_}
 use mathlib.Core.List.{List, [], _∷_}
 use native.Mathlib.Omega.{arith}
@@ -8,10 +8,11 @@ use lib.Seq.{getD-set-same, getD-set-other}
 use lib.Dec.{eqb}
 use borrow.Author.Tests.{eqb-true, eqb-false}
 use Rattle.model.specs.declared.Field.{Field}
-use Rattle.model.specs.Table.{bases, kinds, jumps, counts, base, jump, countOver}
-use Rattle.model.specs.File.{rowStart, afterCount, afterItem, nextField, belowCount, fromHeader, inRange, ascends}
-use Rattle.fields.specs.Valid.{Valid, field}
-use Rattle.fields.proofs.Rows.{by-bool}
+use Rattle.model.specs.Table.{bases, kinds, jumps, counts, base, countOver}
+use Rattle.model.specs.File.{nextField, belowCount, fromHeader, inRange, ascends}
+use Rattle.model.proofs.Cases.{by-bool}
+use Rattle.fields.specs.Valid.{Valid}
+use Rattle.fields.proofs.Steps.{after-count, after-item}
 
 -- Where the items of each row's list begin; a row that is no item's begins by itself.
 unfoldable pub itemBases : List ℕ
@@ -114,31 +115,23 @@ seen-before c d h k s n =
     (λ e. by-bool (eqb k 67) (λ t. let q = eqb-true k 67 t in record { below = omega (arith, h .vertices (omega arith)); counts = λ a b. absurd (b q) })
     (λ t. let i = h .items k (s .counts (eqb-false k 2 e) (eqb-false k 67 t)) (s .below) n in record { below = i .1; counts = λ a b. i .0 }))
 
-after-count : (c : Field) (v : ℕ) → Steps c (rowStart (jump (c .row))) → Steps c (field (c .row + 1) (c .place + 1) (v - 1)) → Steps c (afterCount c v)
-unfolding afterCount
-after-count c v none some = by-bool (eqb v 0) (λ e. rw e none) (λ e. rw e some)
-
-after-item : (c : Field) → Steps c (rowStart (c .row + 1)) → Steps c (field (jump (c .row)) (c .place + 1) (c .left - 1)) → Steps c (afterItem c)
-unfolding afterItem
-after-item c none some = by-bool (eqb (c .left) 0) (λ e. rw e none) (λ e. rw e some)
-
 next-steps : {c : Field} → Valid c → c .row < 15 → (v : ℕ) → Steps c (nextField c v)
 unfolding nextField bases kinds jumps itemBases
 next-steps Valid.edition h v = omega arith
 next-steps Valid.scratchpad h v = omega arith
-next-steps Valid.functions h v = after-count _ v (omega arith) (omega arith)
+next-steps Valid.functions h v = after-count (Steps _) _ v (λ e. omega arith) (λ k. omega arith)
 next-steps (Valid.size i left f) h v = omega arith
-next-steps (Valid.load i left f) h v = after-item _ (omega arith) (omega arith)
-next-steps Valid.vertices h v = after-count _ v (omega arith) (omega arith)
+next-steps (Valid.load i left f) h v = after-item (Steps _) _ (λ e. omega arith) (λ k. omega arith)
+next-steps Valid.vertices h v = after-count (Steps _) _ v (λ e. omega arith) (λ k. omega arith)
 next-steps (Valid.function i left f) h v = omega arith
-next-steps (Valid.cost i left f) h v = after-item _ (omega arith) (omega arith)
-next-steps Valid.edges h v = after-count _ v (omega arith) (omega arith)
+next-steps (Valid.cost i left f) h v = after-item (Steps _) _ (λ e. omega arith) (λ k. omega arith)
+next-steps Valid.edges h v = after-count (Steps _) _ v (λ e. omega arith) (λ k. omega arith)
 next-steps (Valid.from i left f) h v = omega arith
-next-steps (Valid.to i left f) h v = after-item _ (omega arith) (omega arith)
-next-steps Valid.loops h v = after-count _ v (omega arith) (omega arith)
+next-steps (Valid.to i left f) h v = after-item (Steps _) _ (λ e. omega arith) (λ k. omega arith)
+next-steps Valid.loops h v = after-count (Steps _) _ v (λ e. omega arith) (λ k. omega arith)
 next-steps (Valid.header i left f) h v = omega arith
 next-steps (Valid.last i left f) h v = omega arith
-next-steps (Valid.bound i left f) h v = after-item _ (omega arith) (omega arith)
+next-steps (Valid.bound i left f) h v = after-item (Steps _) _ (λ e. omega arith) (λ k. omega arith)
 next-steps Valid.end h v = absurd (omega arith)
 
 -- Two lists alike from c on, with the same number put at c, are alike from the next field on.

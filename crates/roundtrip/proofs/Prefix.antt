@@ -16,7 +16,7 @@ use Rattle.model.specs.declared.Fields.the-variants.{Done, Refused}
 use Rattle.model.specs.Spelling.{readNumber}
 use Rattle.model.specs.File.{numberCount, readLength, firstField, atEnd, nextField, itemStart, Scan, scanned, readFrom}
 use Rattle.model.specs.Operations.{readRest, readFile}
-use Rattle.fields.proofs.Rows.{by-bool}
+use Rattle.model.proofs.Cases.{by-bool}
 use Rattle.spelling.proofs.Prefix.{number-prefix, number-ends, never-ended}
 use Rattle.roundtrip.proofs.Turns.{Reads, reads}
 

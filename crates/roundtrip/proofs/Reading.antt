@@ -15,9 +15,10 @@ use Rattle.model.specs.File.{numberCount, firstField, atEnd, nextField, inRange
 use Rattle.fields.specs.Valid.{Valid, Placed}
 use Rattle.fields.specs.Fill.{fillFrom}
 use Rattle.fields.proofs.Steps.{Later, placed, next-later, in-row}
+use Rattle.fields.proofs.OneField.{bytes-over, bytes-on, fill-over, fill-on}
 use Rattle.spelling.proofs.RoundTrip.{only-spelling}
 use Rattle.roundtrip.proofs.Agree.{Agree, alike-below, range-agrees, ascends-agrees}
-use Rattle.roundtrip.proofs.Turns.{Reads, Judged, reads, is-judged, bytes-over, bytes-on, fill-over, fill-on}
+use Rattle.roundtrip.proofs.Turns.{Reads, Judged, reads, is-judged}
 
 -- The numbers m that reading from c on leaves of l, where the bytes s are read from `at` to `end`.
 pub record ReadBack (n : ℕ) (s : List ℕ) (at start : ℕ) (c : Field) (l : List ℕ) (end : ℕ) (m : List ℕ) : Type 0 where

@@ -1,20 +1,20 @@
 -- How reading to the end goes, and how judging does: the turns of `readFrom` and `checkFrom`, each with what its tests found, to be gone through by cases.
 use Prim.Native.Nat.{ℕ, zero, suc, _+_}
 use mathlib.Core.Path.{_≡_, refl, ap}
-use mathlib.Core.List.{List, [], _++_}
+use mathlib.Core.List.{List}
 use mathlib.Core.Bool.{true, false}
-use native.Mathlib.Omega.{arith}
 use lib.ListN.{length, getD, set}
+use borrow.Author.Tests.{leb-false}
 use Rattle.model.specs.declared.Number.{Number}
 use Rattle.model.specs.declared.Number.the-variants.{Value, Ended, Misspelt}
 use Rattle.model.specs.declared.Refusal.{Refusal}
 use Rattle.model.specs.declared.Field.{Field}
-use Rattle.model.specs.declared.Fields.{Fields}
 use Rattle.model.specs.declared.Fields.the-variants.{Done, Refused}
-use Rattle.model.specs.Spelling.{readNumber, numberSize, numberBytes}
-use Rattle.model.specs.File.{atEnd, nextField, inRange, ascends, itemStart, Scan, scanned, onNumber, readFrom, checkFrom, bytesFrom}
-use Rattle.fields.specs.Fill.{fillFrom}
-use Rattle.spelling.proofs.Cases.{by-cond}
+use Rattle.model.specs.Spelling.{readNumber, numberSize}
+use Rattle.model.specs.File.{atEnd, nextField, inRange, ascends, itemStart, Scan, scanned, onNumber, readFrom, checkFrom}
+use Rattle.model.proofs.Answers.{refused-not-done}
+use Rattle.model.proofs.Cases.{by-bool, by-cond}
+use Rattle.fields.proofs.OneField.{checked}
 
 -- At most n fields of the bytes s, read from c on into l, end at `end` and leave m.
 pub data Reads (s : List ℕ) : ℕ → ℕ → ℕ → Field → List ℕ → ℕ → List ℕ → Type 0 where
@@ -54,10 +54,7 @@ module _ {end : ℕ} {m : List ℕ} where
       rw (← q, ← t) p
 
   never-refused : {P : Type 0} (f : Refusal) (l : List ℕ) → scanned (Refused f) l ≡ scanned (Done end) m → P
-  never-refused f l e =
-      let a : Refused f ≡ Done end = ap (λ (x : Scan). x .answer) e in
-      let z : _≡_ {A = ℕ} 0 1 = cc in
-      absurd (omega arith)
+  never-refused f l e = refused-not-done (ap (λ (x : Scan). x .answer) e)
 
   on-value : {P : Type 0} (r : Number) (size at : ℕ) (l : List ℕ) (go : ℕ → ℕ → Scan) → ((v next : ℕ) → r ≡ Value v next → go v next ≡ scanned (Done end) m → P) →
       onNumber r size at l go ≡ scanned (Done end) m → P
@@ -84,32 +81,9 @@ module _ (s : List ℕ) (end : ℕ) (m : List ℕ) where
 
 pub judged : (l : List ℕ) (end n at start : ℕ) (c : Field) → checkFrom n at start c l ≡ Done end → Judged l n at start c end
 unfolding checkFrom
-judged l end zero at start c = λ o. let q : at ≡ end = cc in rw (← q) Judged.none
-judged l end (suc n) at start c =
-    let P : Fields → Type 0 = λ x. x ≡ Done end → Judged l (suc n) at start c end in
-    let v : ℕ = getD l (c .place) 0 in
-    by-cond P (atEnd c) (λ e o. let q : at ≡ end = cc in rw (← q) (Judged.over e))
-    (λ e. by-cond P (inRange l c v)
-    (λ r. by-cond P (ascends l c)
-    (λ a o. Judged.on v e refl r a (judged l end n (at + numberSize v) (itemStart c at start) (nextField c v) o))
-    (λ a o. let z : _≡_ {A = ℕ} 0 1 = cc in absurd (omega arith)))
-    (λ r o. let z : _≡_ {A = ℕ} 0 1 = cc in absurd (omega arith)))
-
--- The bytes of one field more, and its number filled in.
-module _ (n : ℕ) (c : Field) (l : List ℕ) where
-  pub bytes-over : atEnd c ≡ true → bytesFrom (suc n) c l ≡ []
-  unfolding bytesFrom
-  bytes-over e = simp e
-
-  pub fill-over : (m : List ℕ) → atEnd c ≡ true → fillFrom (suc n) c l m ≡ m
-  unfolding fillFrom
-  fill-over m e = simp e
-
-  module _ (v : ℕ) (going : atEnd c ≡ false) (here : getD l (c .place) 0 ≡ v) where
-    pub bytes-on : bytesFrom (suc n) c l ≡ numberBytes v ++ bytesFrom n (nextField c v) l
-    unfolding bytesFrom
-    bytes-on = simp (going, here)
-
-    pub fill-on : (m : List ℕ) → fillFrom (suc n) c l m ≡ fillFrom n (nextField c v) l (set m (c .place) v)
-    unfolding fillFrom
-    fill-on m = simp (going, here)
+judged l end zero at start c o = let q : at ≡ end = cc in rw (← q) Judged.none
+judged l end (suc n) at start c o =
+    by-bool (atEnd c)
+    (λ e. let d : Done at ≡ Done end = rw e at o in let q : at ≡ end = cc in rw (← q) (Judged.over e))
+    (λ e. let p = checked l n at start end c (leb-false 15 (c .row) e) o in
+    Judged.on _ e refl (p .0 .in-range) (p .0 .ascending) (judged l end n _ _ _ (p .1)))

@@ -1,42 +1,30 @@
 -- Numbers that pass the checks of writing are read back from their file.
-use Prim.Native.Nat.{ℕ, zero, suc, _+_, _*_, _<_}
+use Prim.Native.Nat.{ℕ, _+_, _<_}
 use mathlib.Core.Path.{_≡_, refl, sym, _∙_}
-use mathlib.Core.List.{List, [], _∷_, _++_, append-assoc, append-nil}
-use mathlib.Core.Bool.{Bool, true, _&&_}
+use mathlib.Core.List.{List, [], _++_, append-assoc, append-nil}
+use mathlib.Core.Bool.{true}
 use native.Mathlib.Omega.{arith}
-use lib.Dec.{ltb}
 use lib.ListN.{length, getD, set, replicate, length-append, length-set, length-replicate}
 use lib.Seq.{getD-set-same, getD-set-other}
-use borrow.Author.Tests.{leb-false, ltb-true}
+use borrow.Author.Tests.{leb-false}
 use Rattle.model.specs.declared.Number.the-variants.{Value}
 use Rattle.model.specs.declared.Field.{Field}
 use Rattle.model.specs.declared.Fields.the-variants.{Done}
 use Rattle.model.specs.Spelling.{readNumber, numberSize, numberBytes}
-use Rattle.model.specs.Table.{limits}
 use Rattle.model.specs.File.{numberCount, firstField, nextField, inRange, scanned, readFrom, checkFrom, bytesFrom, checkFields}
 use Rattle.fields.specs.Valid.{Valid}
 use Rattle.fields.specs.Fill.{fillFrom}
-use Rattle.fields.proofs.Rows.{and-left, and-right}
+use Rattle.fields.proofs.Rows.{greatest-below}
 use Rattle.fields.proofs.Steps.{Later, placed, next-later, in-row}
+use Rattle.fields.proofs.OneField.{bytes-over, bytes-on, fill-over, fill-on}
 use Rattle.spelling.proofs.RoundTrip.{round-trip}
 use Rattle.spelling.proofs.Laws.{bytes-length}
 use Rattle.roundtrip.proofs.Agree.{Alike, range-agrees, ascends-agrees, alike-next}
-use Rattle.roundtrip.proofs.Turns.{Reads, Judged, is-read, judged, bytes-over, bytes-on, fill-over, fill-on}
-
--- A test of every number of a list.
-abbrev allBelow : ℕ → List ℕ → Bool
-allBelow b [] = true
-allBelow b (x ∷ l) = ltb x b && allBelow b l
-
-each-below : (b : ℕ) (l : List ℕ) → 0 < b → allBelow b l ≡ true → (k : ℕ) → getD l k 0 < b
-each-below b [] some e k = some
-each-below b (x ∷ l) some e zero = ltb-true x b (and-left (ltb x b) (allBelow b l) e)
-each-below b (x ∷ l) some e (suc k) = each-below b l some (and-right (ltb x b) (allBelow b l) e) k
+use Rattle.roundtrip.proofs.Turns.{Reads, Judged, is-read, judged}
 
 -- A number in range can be spelt.
-in-range-small : (l : List ℕ) (c : Field) (v : ℕ) → inRange l c v ≡ true → v < 4294967296
-unfolding limits
-in-range-small l c v r = omega (arith, in-row l c v r .1, each-below 4294967296 limits (omega arith) refl (2 * c .row + 1))
+in-range-small : (l : List ℕ) (c : Field) (v : ℕ) → c .row < 15 → inRange l c v ≡ true → v < 4294967296
+in-range-small l c v h r = omega (arith, in-row l c v r .1, greatest-below (c .row) h)
 
 -- The file ends where its bytes do.
 judged-ends : {l : List ℕ} {n at start : ℕ} {c : Field} {end : ℕ} → Judged l n at start c end → end ≡ at + length (bytesFrom n c l)
@@ -60,7 +48,7 @@ module _ (s l : List ℕ) where
       let kept : Alike c l (set m (c .place) v) = λ k h. same k h ∙ sym (getD-set-other m (c .place) k v 0 (omega (arith, h .below))) in
       let rest : List ℕ = bytesFrom n (nextField c v) l ++ post in
       let split : s ≡ pre ++ (numberBytes v ++ rest) = is ∙ rw (bytes-on n c l v e q, append-assoc (numberBytes v)) in
-      let spelt : readNumber s at ≡ Value v (at + numberSize v) = rw (split, ← long) (round-trip pre rest v (in-range-small l c v r)) in
+      let spelt : readNumber s at ≡ Value v (at + numberSize v) = rw (split, ← long) (round-trip pre rest v (in-range-small l c v low r)) in
       rw (fill-on n c l v e q m)
       (Reads.on v (at + numberSize v) e spelt
       (sym (range-agrees l m f same v) ∙ r)

@@ -1,5 +1,5 @@
 -- One turn of the loops that go through the fields, case by case, over the definitions that they equal.
-use Prim.Native.Nat.{ℕ, zero, suc, _+_, _-_, _≤_, _<_}
+use Prim.Native.Nat.{ℕ, zero, suc, _+_, _≤_, _<_}
 use mathlib.Core.Path.{_≡_, refl, sym, ap, _∙_}
 use mathlib.Core.List.{List, [], _∷_, _++_}
 use mathlib.Core.Bool.{Bool, true, false, cond}
@@ -10,20 +10,20 @@ use denote.Enum.Declared.{tagOf}
 use Rattle.model.proofs.Number.{the-type}
 use lib.ListN.{length, getD, set}
 use lib.Seq.{sets}
-use lib.Dec.{leb}
 use borrow.Author.Tests.{le-leb, lt-leb}
 use Rattle.model.specs.declared.Field.{Field}
 use Rattle.model.specs.declared.Fields.{Fields}
 use Rattle.model.specs.declared.Fields.the-variants.{Done, Refused}
-use Rattle.model.specs.declared.Refusal.{Refusal}
 use Rattle.model.specs.declared.Refusal.the-variants as refusal
 use Rattle.model.specs.declared.Number as spelt
 use Rattle.model.specs.declared.Number.the-variants as number
 use Rattle.model.specs.Spelling.{readNumber, numberSize, numberBytes}
-use Rattle.model.specs.File.{atEnd, nextField, inRange, ascends, itemStart, Scan, scanned, onNumber, readFrom, checkFrom, bytesFrom}
-use Rattle.spelling.proofs.Laws.{size-five, bytes-length, sets-append}
+use Rattle.model.specs.File.{nextField, inRange, ascends, itemStart, Scan, scanned, onNumber, readFrom, checkFrom, bytesFrom}
+use Rattle.model.proofs.Cases.{by-order}
+use Rattle.model.proofs.Lists.{sets-append}
+use Rattle.spelling.proofs.Laws.{size-five, bytes-length}
 use Rattle.fields.specs.Valid.{Valid}
-use Rattle.fields.proofs.Rows.{by-bool, by-order}
+use Rattle.fields.proofs.OneField.{Passed, checked, bytes-over, bytes-on}
 use Rattle.fields.proofs.Steps.{next-later, in-row}
 use Rattle.scan.specs.Answers.{misread}
 
@@ -32,9 +32,6 @@ pub no-value : (m : spelt.Number) → OneOf (1 ∷ 2 ∷ []) (tagOf the-type m) 
 no-value (number.Value a b) told v next q = ⊎-elim (λ e. omega arith) (λ e. omega arith) told
 no-value number.Ended told v next q = let z : _≡_ {A = ℕ} 0 1 = cc in omega arith
 no-value number.Misspelt told v next q = let z : _≡_ {A = ℕ} 0 1 = cc in omega arith
-
-pub left-of : (i n : ℕ) → i < n → n - i ≡ suc (n - (i + 1))
-left-of i n h = omega arith
 
 -- Reading, with n more fields to come.
 module _ (k n : ℕ) (s : List ℕ) (at start : ℕ) (c : Field) (l : List ℕ) (r : Scan) (left : k ≡ suc n) (inv : readFrom k s at start c l ≡ r) where
@@ -119,29 +116,12 @@ pub check-done : (k at start : ℕ) (c : Field) (l : List ℕ) (r : Fields) → 
 unfolding checkFrom
 check-done k at start c l r e inv = rw e at inv
 
-not-done : {P : Type 0} {f : Refusal} {n : ℕ} → Refused f ≡ Done n → P
-not-done e = let q : _≡_ {A = ℕ} 0 1 = cc in let z : ⊥ = omega arith in elim z [ ]
-
--- What a field had that was judged good.
-pub record Passed (n at start : ℕ) (c : Field) (l : List ℕ) (end : ℕ) : Type 0 where
-  pub range : inRange l c (getD l (c .place) 0) ≡ true
-  pub order : ascends l c ≡ true
-  pub next : checkFrom n (at + numberSize (getD l (c .place) 0)) (itemStart c at start) (nextField c (getD l (c .place) 0)) l ≡ Done end
-
-pub passed : (n at start : ℕ) (c : Field) (l : List ℕ) (end : ℕ) → checkFrom (suc n) at start c l ≡ Done end → c .row < 15 → Passed n at start c l end
-passed n at start c l end inv h =
-    by-bool (inRange l c (getD l (c .place) 0))
-    (λ e. by-bool (ascends l c)
-    (λ a. record { range = e; order = a; next = check-next (suc n) n at start c l (Done end) refl inv h true (sym e) refl _ refl true (sym a) _ refl _ refl refl })
-    (λ a. not-done (check-disorder (suc n) n at start c l (Done end) refl inv h true (sym e) refl _ refl false (sym a) refl)))
-    (λ e. not-done (check-out (suc n) n at start c l (Done end) refl inv h false (sym e) refl))
-
 -- The position only grows.
 pub check-grows : (n at start : ℕ) (c : Field) (l : List ℕ) (end : ℕ) → checkFrom n at start c l ≡ Done end → at ≤ end
 check-grows zero at start c l end e = let q : Done at ≡ Done end = check-done zero at start c l (Done end) refl e in let p : at ≡ end = cc in omega arith
 check-grows (suc n) at start c l end e =
     by-order (c .row) 15
-    (λ h. let next = check-grows n (at + numberSize (getD l (c .place) 0)) (itemStart c at start) (nextField c (getD l (c .place) 0)) l end (passed n at start c l end e h .next) in omega arith)
+    (λ h. let next = check-grows n (at + numberSize (getD l (c .place) 0)) (itemStart c at start) (nextField c (getD l (c .place) 0)) l end (checked l n at start end c h e .1) in omega arith)
     (λ h. let q : Done at ≡ Done end = check-end (suc n) n at start c l (Done end) refl e h in let p : at ≡ end = cc in omega arith)
 
 -- The field after a number in range is valid.
@@ -151,31 +131,29 @@ later {c} valid h l v t e f q = rw q (next-later valid v h (in-row l c v (sym e 
 -- Writing, with n more fields to come: numbers that were judged good have room, a next field, and the bytes that are left.
 module _ (k n at start : ℕ) (c : Field) (l : List ℕ) (r : Fields) (need : ℕ) (left : k ≡ suc n) (inv : checkFrom k at start c l ≡ r) (good : r ≡ Done need) where
   pub write-end : 15 ≤ c .row → (buf whole : List ℕ) → sets buf at (bytesFrom k c l) ≡ whole → (Done at ≡ r) × (buf ≡ whole)
-  unfolding bytesFrom
-  write-end h buf whole e = (check-end k n at start c l r left inv h, simp (le-leb 15 (c .row) h) at (rw left at e))
+  write-end h buf whole e = (check-end k n at start c l r left inv h, rw (left, bytes-over n c l (le-leb 15 (c .row) h)) at e)
 
   module _ (h : c .row < 15) where
-    judged-good : Passed n at start c l need
-    judged-good = passed n at start c l need (rw left at (inv ∙ good)) h
+    judged-good : Passed l c × (checkFrom n (at + numberSize (getD l (c .place) 0)) (itemStart c at start) (nextField c (getD l (c .place) 0)) l ≡ Done need)
+    judged-good = checked l n at start need c h (rw left at (inv ∙ good))
 
     pub write-room : at + numberSize (getD l (c .place) 0) ≤ need
-    write-room = check-grows n _ _ _ l need (judged-good .next)
+    write-room = check-grows n _ _ _ l need (judged-good .1)
 
     module _ (d : Field) (is : d ≡ nextField c (getD l (c .place) 0)) where
       pub write-valid : Valid c → Valid d
-      write-valid valid = later valid h l _ true (sym (judged-good .range)) refl is
+      write-valid valid = later valid h l _ true (sym (judged-good .0 .in-range)) refl is
 
       module _ (at′ : ℕ) (moved : at′ ≡ at + numberSize (getD l (c .place) 0)) where
         pub write-checked : checkFrom n at′ (itemStart c at start) d l ≡ r
-        write-checked = rw (is, moved) (judged-good .next ∙ sym good)
+        write-checked = rw (is, moved) (judged-good .1 ∙ sym good)
 
         pub write-bytes : (buf next whole : List ℕ) → next ≡ sets buf at (numberBytes (getD l (c .place) 0)) → sets buf at (bytesFrom k c l) ≡ whole →
             sets next at′ (bytesFrom n d l) ≡ whole
-        unfolding bytesFrom
         write-bytes buf next whole e w =
             let bytes : List ℕ = numberBytes (getD l (c .place) 0) in
             let rest : List ℕ = bytesFrom n (nextField c (getD l (c .place) 0)) l in
-            let turn : sets buf at (bytes ++ rest) ≡ whole = simp (lt-leb 15 (c .row) h) at (rw left at w) in
+            let turn : sets buf at (bytes ++ rest) ≡ whole = rw (left, bytes-on n c l _ (lt-leb 15 (c .row) h) refl) at w in
             rw (e, is, moved)
             (ap (λ (m : ℕ). sets (sets buf at bytes) (at + m) rest) (sym (bytes-length (getD l (c .place) 0))) ∙ sym (sets-append bytes rest buf at) ∙ turn)
 

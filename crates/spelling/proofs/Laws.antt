@@ -1,17 +1,17 @@
 -- What the functions' proofs cite: a reading under way, the size of a number, and its bytes stored one by one.
 use Prim.Native.Nat.{ℕ, zero, suc, _+_, _-_, _*_, _/_, _%_, _^_, _≤_, _<_, max}
 use mathlib.Core.Path.{_≡_, refl, sym, ap, _∙_}
-use mathlib.Core.List.{List, [], _∷_, _++_}
+use mathlib.Core.List.{List, [], _∷_}
 use mathlib.Core.Bool.{false}
 use native.Mathlib.Omega.{arith}
-use native.Mathlib.Nat.{mul-le-mul-right, pow-le-pow-right, pow-succ', add-zero}
+use native.Mathlib.Nat.{mul-le-mul-right, pow-le-pow-right, pow-succ'}
 use native.Mathlib.Numerals.{add-one}
 use lib.ListN.{length, getD, set}
 use lib.Seq.{sets}
 use Rattle.model.specs.declared.Number.{Number}
 use Rattle.model.specs.declared.Number.the-variants.{Misspelt}
 use Rattle.model.specs.Spelling.{highFifth, readGroups, readNumber, groups, numberSize, numberBytes}
-use Rattle.spelling.proofs.Cases.{by-less}
+use Rattle.model.proofs.Cases.{by-less}
 use Rattle.spelling.proofs.Reading.{Reading, reading, is-read}
 
 -- A reading of the number at `at` that has come to `pos`: what is left to read decides the answer.
@@ -77,12 +77,6 @@ groups-length (suc (suc n)) v = ap suc (groups-length (suc n) (v / 128))
 
 pub bytes-length : (v : ℕ) → length (numberBytes v) ≡ numberSize v
 bytes-length v = groups-length (numberSize v) v
-
-pub sets-append : {A : Type 0} (xs ys l : List A) (i : ℕ) → sets l i (xs ++ ys) ≡ sets (sets l i xs) (i + length xs) ys
-sets-append [] ys l i = rw add-zero
-sets-append (x ∷ xs) ys l i =
-    let e : i + suc (length xs) ≡ suc i + length xs = omega arith in
-    rw e (sets-append xs ys (set l i x) (suc i))
 
 -- One more byte stored, and the groups that are left.
 pub write-turn : (l : ℕ) (buf : List ℕ) (at v : ℕ) → 1 < l →

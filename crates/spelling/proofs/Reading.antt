@@ -8,7 +8,7 @@ use borrow.Author.Tests.{lt-ltb, le-ltb}
 use Rattle.model.specs.declared.Number.{Number}
 use Rattle.model.specs.declared.Number.the-variants.{Value, Ended, Misspelt}
 use Rattle.model.specs.Spelling.{highFifth, zeroLast, readGroups}
-use Rattle.spelling.proofs.Cases.{by-cond, by-less}
+use Rattle.model.proofs.Cases.{by-cond, by-less}
 
 pub data Reading (s : List ℕ) : ℕ → ℕ → ℕ → ℕ → Number → Type 0 where
   over : {at u w : ℕ} → Reading s zero at u w Misspelt

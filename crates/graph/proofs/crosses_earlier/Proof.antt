@@ -4,7 +4,7 @@ use native.Mathlib.Omega.{arith}
 use borrow.Author.Needs.{needs}
 use Rattle.model.specs.Graph.{loop, crosses}
 use Rattle.graph.specs.Counts.{loopsIn}
-use Rattle.graph.proofs.Search.{Searched, start, miss, exists-hit, exists-none}
+use Rattle.model.proofs.Search.{Searched, start, miss, exists-hit, exists-none}
 use Rattle.graph.proofs.crosses_earlier.Statement.{statement}
 use Rattle.graph.proofs.crosses_earlier.Tie as tie
 

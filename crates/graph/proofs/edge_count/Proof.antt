@@ -1,7 +1,7 @@
 -- `graph::edge_count` reads the place of the count, which is how many edges the problem has.
 use mathlib.Core.Path.{sym}
 use borrow.Author.Needs.{needs}
-use Rattle.graph.proofs.Lists.{edge-count}
+use Rattle.graph.proofs.Places.{edge-count}
 use Rattle.graph.proofs.edge_count.Statement.{statement}
 use Rattle.graph.proofs.edge_count.Tie as tie
 

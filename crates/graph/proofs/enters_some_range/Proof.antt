@@ -6,7 +6,7 @@ use borrow.Author.Needs.{needs}
 use lib.ListN.{length}
 use Rattle.model.specs.Graph.{loop, entersPastHeader}
 use Rattle.graph.specs.Counts.{loopsIn}
-use Rattle.graph.proofs.Search.{Searched, start, miss, exists-hit, exists-none}
+use Rattle.model.proofs.Search.{Searched, start, miss, exists-hit, exists-none}
 use Rattle.graph.proofs.enters_some_range.Statement.{statement}
 use Rattle.graph.proofs.enters_some_range.Tie as tie
 

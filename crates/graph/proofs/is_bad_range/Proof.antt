@@ -2,7 +2,7 @@
 use mathlib.Core.Path.{sym, _∙_}
 use native.Mathlib.Omega.{arith}
 use Rattle.model.specs.Graph.{badRange}
-use Rattle.graph.proofs.Lists.{some-vertex}
+use Rattle.graph.proofs.Places.{some-vertex}
 use borrow.Author.Needs.{needs}
 use Rattle.graph.proofs.is_bad_range.Statement.{statement}
 use Rattle.graph.proofs.is_bad_range.Tie as tie

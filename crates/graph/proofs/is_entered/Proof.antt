@@ -5,7 +5,7 @@ use borrow.Author.Needs.{needs}
 use lib.ListN.{length}
 use Rattle.model.specs.Graph.{edge, entersFromBelow}
 use Rattle.graph.specs.Counts.{edgesIn}
-use Rattle.graph.proofs.Search.{Searched, start, miss, exists-hit, exists-none}
+use Rattle.model.proofs.Search.{Searched, start, miss, exists-hit, exists-none}
 use Rattle.graph.proofs.is_entered.Statement.{statement}
 use Rattle.graph.proofs.is_entered.Tie as tie
 

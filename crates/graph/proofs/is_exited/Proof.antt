@@ -7,7 +7,7 @@ use borrow.Author.Needs.{needs}
 use lib.ListN.{length}
 use Rattle.model.specs.Graph.{edge}
 use Rattle.graph.specs.Counts.{edgesIn}
-use Rattle.graph.proofs.Search.{Searched, start, miss, exists-hit, exists-none}
+use Rattle.model.proofs.Search.{Searched, start, miss, exists-hit, exists-none}
 use Rattle.graph.proofs.is_exited.Statement.{statement}
 use Rattle.graph.proofs.is_exited.Tie as tie
 

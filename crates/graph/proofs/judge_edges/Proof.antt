@@ -6,7 +6,7 @@ use borrow.Author.Needs.{needs}
 use lib.ListN.{length}
 use Rattle.model.specs.Graph.{edge, wrongEdge}
 use Rattle.graph.specs.Counts.{edgesIn, loopsIn}
-use Rattle.graph.proofs.Search.{Searched, start, miss, broken-hit, broken-none}
+use Rattle.model.proofs.Search.{Searched, start, miss, broken-hit, broken-none}
 use Rattle.graph.proofs.judge_edges.Statement.{statement}
 use Rattle.graph.proofs.judge_edges.Tie as tie
 

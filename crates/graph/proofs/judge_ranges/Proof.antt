@@ -6,7 +6,7 @@ use borrow.Author.Needs.{needs}
 use lib.ListN.{length}
 use Rattle.model.specs.Graph.{badRange}
 use Rattle.graph.specs.Counts.{verticesIn, loopsIn}
-use Rattle.graph.proofs.Search.{Searched, start, miss, broken-hit, broken-none}
+use Rattle.model.proofs.Search.{Searched, start, miss, broken-hit, broken-none}
 use Rattle.graph.proofs.judge_ranges.Statement.{statement}
 use Rattle.graph.proofs.judge_ranges.Tie as tie
 

@@ -6,7 +6,7 @@ use borrow.Author.Needs.{needs}
 use lib.ListN.{length}
 use Rattle.model.specs.Graph.{loop, noReturn}
 use Rattle.graph.specs.Counts.{edgesIn, loopsIn}
-use Rattle.graph.proofs.Search.{Searched, start, miss, broken-hit, broken-none}
+use Rattle.model.proofs.Search.{Searched, start, miss, broken-hit, broken-none}
 use Rattle.graph.proofs.judge_returns.Statement.{statement}
 use Rattle.graph.proofs.judge_returns.Tie as tie
 

@@ -5,7 +5,7 @@ use native.Mathlib.Omega.{arith}
 use borrow.Author.Needs.{needs}
 use Rattle.model.specs.Graph.{lacks}
 use Rattle.graph.specs.Counts.{verticesIn, edgesIn}
-use Rattle.graph.proofs.Search.{Searched, start, miss, broken-hit, broken-none}
+use Rattle.model.proofs.Search.{Searched, start, miss, broken-hit, broken-none}
 use Rattle.graph.proofs.judge_vertices.Statement.{statement}
 use Rattle.graph.proofs.judge_vertices.Tie as tie
 

@@ -1,7 +1,7 @@
 -- `graph::lacks_exit` is its part of the definition.
 use native.Mathlib.Omega.{arith}
 use borrow.Author.Tests.{lt-ltb, le-ltb}
-use Rattle.graph.proofs.Lists.{some-vertex}
+use Rattle.graph.proofs.Places.{some-vertex}
 use borrow.Author.Needs.{needs}
 use Rattle.graph.proofs.lacks_exit.Statement.{statement}
 use Rattle.graph.proofs.lacks_exit.Tie as tie

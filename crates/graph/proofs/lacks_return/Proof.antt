@@ -7,7 +7,7 @@ use borrow.Author.Needs.{needs}
 use lib.ListN.{length}
 use Rattle.model.specs.Graph.{edge, loop, returnsTo, noReturn}
 use Rattle.graph.specs.Counts.{edgesIn, loopsIn}
-use Rattle.graph.proofs.Search.{Searched, start, miss, exists-hit, exists-none}
+use Rattle.model.proofs.Search.{Searched, start, miss, exists-hit, exists-none}
 use Rattle.graph.proofs.lacks_return.Statement.{statement}
 use Rattle.graph.proofs.lacks_return.Tie as tie
 

@@ -1,7 +1,7 @@
 -- `graph::loop_count` reads the place of the count, which is how many loops the problem has.
 use mathlib.Core.Path.{sym}
 use borrow.Author.Needs.{needs}
-use Rattle.graph.proofs.Lists.{loop-count}
+use Rattle.graph.proofs.Places.{loop-count}
 use Rattle.graph.proofs.loop_count.Statement.{statement}
 use Rattle.graph.proofs.loop_count.Tie as tie
 

@@ -2,7 +2,7 @@
 use mathlib.Core.Path.{sym, ap}
 use native.Mathlib.Omega.{arith}
 use Rattle.model.specs.declared.Loop.{Loop}
-use Rattle.graph.proofs.Lists.{loop-below, loop-at}
+use Rattle.graph.proofs.Places.{loop-below, loop-at}
 use Rattle.graph.proofs.loop_header.Statement.{statement}
 use Rattle.graph.proofs.loop_header.Tie as tie
 

@@ -6,7 +6,7 @@ use borrow.Author.Needs.{needs}
 use lib.ListN.{length}
 use Rattle.model.specs.Graph.{loop, returnsTo}
 use Rattle.graph.specs.Counts.{loopsIn}
-use Rattle.graph.proofs.Search.{Searched, start, miss, exists-hit, exists-none}
+use Rattle.model.proofs.Search.{Searched, start, miss, exists-hit, exists-none}
 use Rattle.graph.proofs.returns_to_some.Statement.{statement}
 use Rattle.graph.proofs.returns_to_some.Tie as tie
 

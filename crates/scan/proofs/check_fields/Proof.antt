@@ -8,9 +8,10 @@ use borrow.Author.Needs.{needs}
 use borrow.Author.Tests.{not-true, not-false}
 use Rattle.model.specs.declared.Field.{Field}
 use Rattle.model.specs.File.{numberCount, firstField, checkFrom}
+use Rattle.model.proofs.Cases.{left-of}
 use Rattle.fields.specs.Valid.{Valid, edition}
 use Rattle.fields.proofs.Steps.{placed}
-use Rattle.scan.proofs.Turns.{left-of, check-end, check-out, check-disorder, check-next, check-done, later, size-near}
+use Rattle.scan.proofs.Turns.{check-end, check-out, check-disorder, check-next, check-done, later, size-near}
 use Rattle.scan.proofs.check_fields.Statement.{statement}
 use Rattle.scan.proofs.check_fields.Tie as tie
 

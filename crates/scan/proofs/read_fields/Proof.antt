@@ -1,15 +1,16 @@
 -- `read_fields` reads as `readFrom` does. The invariant: what is left to read from the present field is what was to be read from the first, and the field is valid.
 use Prim.Native.Nat.{ℕ, _-_, _≤_}
 use mathlib.Core.List.{List}
-use mathlib.Core.Path.{_≡_, refl, sym, ap, _∙_}
+use mathlib.Core.Path.{_≡_, ap}
 use native.Mathlib.Omega.{arith}
 use borrow.Author.Needs.{needs}
 use borrow.Author.Tests.{not-true, not-false}
 use Rattle.model.specs.declared.Field.{Field}
 use Rattle.model.specs.File.{numberCount, firstField, readFrom}
+use Rattle.model.proofs.Cases.{left-of}
 use Rattle.fields.specs.Valid.{Valid, edition}
-use Rattle.fields.proofs.Steps.{placed, next-later, in-row}
-use Rattle.scan.proofs.Turns.{left-of, no-value, read-end, read-refused, read-out, read-disorder, read-next, read-done, later}
+use Rattle.fields.proofs.Steps.{placed}
+use Rattle.scan.proofs.Turns.{no-value, read-end, read-refused, read-out, read-disorder, read-next, read-done, later}
 use Rattle.scan.proofs.read_fields.Statement.{statement}
 use Rattle.scan.proofs.read_fields.Tie as tie
 

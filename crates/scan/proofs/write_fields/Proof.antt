@@ -8,10 +8,11 @@ use borrow.Author.Needs.{needs}
 use lib.ListN.{length}
 use lib.Seq.{sets, length-sets}
 use Rattle.model.specs.declared.Field.{Field}
-use Rattle.model.specs.File.{numberCount, firstField, checkFrom, checkFields, bytesFrom, fileBytes, itemStart}
+use Rattle.model.specs.File.{numberCount, checkFrom, checkFields, bytesFrom, fileBytes, itemStart}
+use Rattle.model.proofs.Cases.{left-of}
 use Rattle.fields.specs.Valid.{Valid, edition}
 use Rattle.fields.proofs.Steps.{placed}
-use Rattle.scan.proofs.Turns.{left-of, write-end, write-room, write-valid, write-checked, write-bytes, write-done}
+use Rattle.scan.proofs.Turns.{write-end, write-room, write-valid, write-checked, write-bytes, write-done}
 use Rattle.scan.proofs.write_fields.Statement.{statement}
 use Rattle.scan.proofs.write_fields.Tie as tie
 

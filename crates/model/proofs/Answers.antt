@@ -1,0 +1,14 @@
+-- A refusal is no good answer: what says that it is one proves anything.
+use Prim.Native.Nat.{ℕ}
+use mathlib.Core.Path.{_≡_}
+use native.Mathlib.Omega.{arith}
+use Rattle.model.specs.declared.Refusal.{Refusal}
+use Rattle.model.specs.declared.Verdict.the-variants as verdict
+use Rattle.model.specs.declared.Fields.the-variants as fields
+
+module _ {P : Type 0} {f : Refusal} where
+  pub refused-not-accepted : verdict.Refused f ≡ verdict.Accepted → P
+  refused-not-accepted e = let q : _≡_ {A = ℕ} 0 1 = cc in absurd (omega arith)
+
+  pub refused-not-done : {n : ℕ} → fields.Refused f ≡ fields.Done n → P
+  refused-not-done e = let q : _≡_ {A = ℕ} 0 1 = cc in absurd (omega arith)
