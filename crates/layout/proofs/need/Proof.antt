@@ -1,0 +1,60 @@
+-- `layout::need` adds up the largest sizes of the regions passed.
+use Prim.Native.Nat.{_+_, _-_}
+use mathlib.Core.Path.{refl}
+use native.Mathlib.Omega.{arith}
+use borrow.Author.Needs.{needs}
+use Rattle.model.specs.Numbers.{problemOf}
+use Rattle.model.specs.Costs.{total}
+use Rattle.model.specs.Layouts.{largestIn, needOf}
+use Rattle.layout.proofs.Sums.{Upto, turn, end, total-more}
+use Rattle.layout.proofs.Judged.{sum-high}
+use Rattle.layout.proofs.need.Statement.{statement}
+use Rattle.layout.proofs.need.Tie as tie
+
+abbrev Inv-loop : tie.InvT-loop
+Inv-loop l layout needed₀ region₀ needed region =
+    Upto (λ n. total n (largestIn (problemOf l) layout)) 32 region (needed .0)
+
+abbrev μ-loop : tie.MeasureT-loop
+μ-loop l layout needed₀ region₀ needed region = 32 - region
+
+loop-holds : tie.Need-loop-holds Inv-loop μ-loop
+unfolding total
+loop-holds c = record { within = omega arith; is = refl }
+
+largest-in-requires : tie.Need-largest-in-requires Inv-loop μ-loop
+largest-in-requires c κs = search needs
+
+sum-requires : tie.Need-sum-requires Inv-loop μ-loop
+sum-requires c κs =
+    omega (
+      arith,
+      sum-high _ (c .before .before .before .before .pre) (c .before .before .before .before .args .layout .now) (c .before .before .loop .region) (omega arith),
+    )
+
+add-region : tie.Need-add-region Inv-loop μ-loop
+add-region c = search needs
+
+loop-less : tie.Need-loop-less Inv-loop μ-loop
+loop-less c = search needs
+
+loop-again : tie.Need-loop-again Inv-loop μ-loop
+loop-again c = turn _+_ (total-more _) (c .before .before .before .loop .inv) (omega arith) (c .before .largest-in .ensures) (c .sum .ensures)
+
+returns : tie.Need-returns Inv-loop μ-loop
+unfolding needOf
+returns c = end (c .before .loop .inv) (omega arith)
+
+pub need-spec : {M : Type 1} → statement M
+need-spec =
+    tie.close
+    (tie.spec
+    Inv-loop
+    μ-loop
+    loop-holds
+    largest-in-requires
+    sum-requires
+    add-region
+    loop-less
+    loop-again
+    returns)
