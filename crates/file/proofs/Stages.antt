@@ -16,14 +16,13 @@ use Rattle.model.specs.declared.ReadAnswer.{ReadAnswer}
 use Rattle.model.specs.declared.WriteAnswer.{WriteAnswer}
 use Rattle.model.specs.declared.WriteAnswer.the-variants as write
 use Rattle.model.specs.Zero.{zeroProblem}
-use Rattle.model.specs.Numbers.{numbersOf, problemOf}
+use Rattle.model.specs.Numbers.{problemOf}
 use Rattle.model.specs.File.{Scan, scanned, readFields, checkFields, fileBytes}
 use Rattle.model.specs.Graph.{judgeGraph}
-use Rattle.model.specs.Operations.{unread, readVerdict, readRest, readFile, afterGraph, afterFields, checkProblem, writeChecked, writeProblem, afterWrite, writtenBuffer}
-use Rattle.model.proofs.Answers.{refused-not-done}
+use Rattle.model.specs.Operations.{unread, readVerdict, readRest, readFile, afterGraph, afterFields, writeChecked, writeProblem, afterWrite, writtenBuffer}
 use Rattle.numbers.specs.Numbered.{Numbered}
-use Rattle.numbers.proofs.Inverse.{problem-of-numbers}
 use Rattle.scan.specs.Answers.{Fits}
+use Rattle.file.proofs.Opened.{good, checks-problem}
 use Rattle.file.specs.Steps.{refusalIn, checkNumbers}
 
 -- Read, where the fields left the answer f and the numbers l.
@@ -62,24 +61,11 @@ module _ (l : List ℕ) (f : Fields) (is : f ≡ checkFields l) where
   pub after-graph : (need : ℕ) → f ≡ fields.Done need → (v : Verdict) → v ≡ judgeGraph (problemOf l) → (w : Verdict) → v ≡ w → afterGraph w need ≡ checkNumbers l
   after-graph need e v judged w q = ap (λ (x : Verdict). afterGraph x need) (sym q ∙ judged) ∙ checks _ e
 
--- Checks that end well began well.
-fields-good : (f : Fields) (p : Problem) (need : ℕ) → afterFields f p ≡ fields.Done need → f ≡ fields.Done need
-fields-good (fields.Done n) p need e = graph-good (judgeGraph p) e
-  where
-    graph-good : (v : Verdict) → afterGraph v n ≡ fields.Done need → fields.Done n ≡ fields.Done need
-    graph-good verdict.Accepted q = q
-    graph-good (verdict.Refused r) q = refused-not-done q
-fields-good (fields.Refused r) p need e = refused-not-done e
-
 -- Write, where the problem's numbers are l, its checks gave f, and the buffer holds buf.
 module _ (p : Problem) (l buf : List ℕ) (numbered : Numbered p l) (f : Fields) (is : f ≡ checkNumbers l) where
-  checked : f ≡ checkProblem p
-  unfolding checkNumbers checkProblem
-  checked = is ∙ rw (numbered .is) (ap (afterFields (checkFields (numbersOf p))) (problem-of-numbers p (numbered .sized)))
-
   writes : (g : Fields) → f ≡ g → writeChecked g (length buf) ≡ writeProblem p (length buf)
   unfolding writeProblem
-  writes g e = ap (λ (x : Fields). writeChecked x (length buf)) (sym e ∙ checked)
+  writes g e = ap (λ (x : Fields). writeChecked x (length buf)) (sym e ∙ checks-problem p l numbered f is)
 
   holds : (a : WriteAnswer) → a ≡ writeProblem p (length buf) → afterWrite a p buf ≡ writtenBuffer p buf
   holds a e = ap (λ (x : WriteAnswer). afterWrite x p buf) e
@@ -97,18 +83,18 @@ module _ (p : Problem) (l buf : List ℕ) (numbered : Numbered p l) (f : Fields)
         let a : write.Refused (refusal.ShortBuffer need) ≡ writeProblem p (length buf) = simp (lt-ltb (length buf) need h) at (writes _ e) in
         (a, holds _ a)
 
-    good : checkFields l ≡ fields.Done need
+    checked : checkFields l ≡ fields.Done need
     unfolding checkNumbers
-    good = fields-good (checkFields l) (problemOf l) need (sym is ∙ e)
+    checked = good (checkFields l) (problemOf l) need (sym is ∙ e) .fields
 
     module _ (h : need ≤ length buf) where
       pub fits : Fits l buf
-      fits = record { need = need; checked = good; room = h }
+      fits = record { need = need; checked = checked; room = h }
 
       pub written : (n : ℕ) (after : List ℕ) → fields.Done n ≡ checkFields l → after ≡ sets buf 0 (fileBytes l) →
           (write.Written n ≡ writeProblem p (length buf)) × (after ≡ writtenBuffer p buf)
       written n after d w =
-          let same : fields.Done n ≡ fields.Done need = d ∙ good in
+          let same : fields.Done n ≡ fields.Done need = d ∙ checked in
           let count : n ≡ need = cc in
           let a : write.Written n ≡ writeProblem p (length buf) = rw count (simp (le-ltb (length buf) need h) at (writes _ e)) in
           (a, w ∙ ap (λ (x : List ℕ). sets buf 0 (fileBytes x)) (numbered .is) ∙ holds _ a)

@@ -11,7 +11,7 @@ ghost use Rattle.model.specs.Operations.{unread, readFile, writeProblem, writte
 ghost use Rattle.file.specs.Steps.{refusalIn, checkNumbers};
 
 // The refusal that an answer holds.
-fn refusal_in(answer: Fields) -> Refusal
+pub fn refusal_in(answer: Fields) -> Refusal
     ensures { λ r. ⌜ r ≡ refusalIn answer ⌝ }
 {
     match answer {

@@ -1,5 +1,5 @@
 -- Interference and charges: visit charges and first loads. Contested and cold are told by tests, which must say what the definitions over walks say.
-use Prim.Native.Nat.{ℕ, _+_, _≤_}
+use Prim.Native.Nat.{ℕ, _+_}
 use mathlib.Core.Path.{_≡_}
 use mathlib.Core.List.{List, [], _∷_}
 use mathlib.Core.Bool.{Bool, true, cond}

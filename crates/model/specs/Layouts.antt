@@ -8,7 +8,6 @@ use Rattle.model.specs.declared.Refusal.the-variants.{LongLayout, Unknow
 use Rattle.model.specs.declared.Verdict.{Verdict}
 use Rattle.model.specs.declared.Verdict.the-variants.{Accepted, Refused}
 use Rattle.model.specs.declared.Problem.{Problem}
-use Rattle.model.specs.Search.{lowestBelow, existsBelow}
 use Rattle.model.specs.Graph.{andThen, broken}
 use Rattle.model.specs.Costs.{sizeOf, total, largest}
 

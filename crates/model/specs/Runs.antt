@@ -1,7 +1,7 @@
 -- Interference and charges: a run. It starts with all regions empty; each visit finds the regions as the visits before left them.
 use Prim.Native.Nat.{ℕ, _+_}
 use mathlib.Core.List.{List, [], _∷_}
-use mathlib.Core.Bool.{Bool, true, false, cond}
+use mathlib.Core.Bool.{Bool, false, cond}
 use mathlib.Core.Option.{Option, some, none}
 use lib.Dec.{eqb}
 use Rattle.model.specs.declared.Problem.{Problem}
