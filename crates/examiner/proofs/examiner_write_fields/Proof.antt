@@ -1,0 +1,48 @@
+-- `examiner_write_fields` meets its contract: Write's answer on the problem that the fields say is told.
+use lib.ListN.{length}
+use mathlib.Core.Path.{ap, _∙_}
+use Rattle.model.specs.declared.Problem.{Problem}
+use Rattle.model.specs.Numbers.{problemOf}
+use Rattle.model.specs.Operations.{writeProblem, writtenBuffer}
+use Rattle.examiner.specs.Outcomes.{onWritten}
+use Rattle.examiner.proofs.Told.{told-with}
+use borrow.Author.Needs.{needs}
+use Rattle.examiner.proofs.examiner_write_fields.Statement.{statement}
+use Rattle.examiner.proofs.examiner_write_fields.Tie as tie
+
+with-edition-requires : tie.Need-with-edition-requires
+with-edition-requires c κs = search needs
+
+problem-of-requires : tie.Need-problem-of-requires
+problem-of-requires c κs = search needs
+
+write-requires : tie.Need-write-requires
+write-requires c κs = search needs
+
+tell-written-requires : tie.Need-tell-written-requires
+tell-written-requires c κs = search needs
+
+same-length : tie.Need-same-length
+same-length c = search needs
+
+returns : tie.Need-returns
+returns c =
+    let out = c .before .before .before .before .before .before .before .before .before .before .before .args .out .now in
+    let w = c .before .before .before .before .write in
+    let problem = c .before .before .before .before .before .before .problem-of .ensures ∙ ap problemOf (c .before .before .before .before .before .before .before .before .with-edition .ensures) in
+    told-with _ _ _ _ _
+    (ap onWritten (w .ensures .0 ∙ ap (λ (p : Problem). writeProblem p (length out)) problem))
+    (c .tell-written .ensures .0)
+    (c .tell-written .ensures .1)
+    (w .ensures .1 ∙ ap (λ (p : Problem). writtenBuffer p out) problem)
+
+pub examiner-write-fields-spec : {M : Type 1} → statement M
+examiner-write-fields-spec =
+    tie.close
+    (tie.spec
+    with-edition-requires
+    problem-of-requires
+    write-requires
+    tell-written-requires
+    same-length
+    returns)

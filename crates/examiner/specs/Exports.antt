@@ -1,0 +1,25 @@
+-- What each export gives back, and what `out` holds afterwards.
+use Prim.Native.Nat.{ℕ}
+use mathlib.Core.List.{List, _∷_}
+use Rattle.model.specs.declared.Problem.{Problem}
+use Rattle.model.specs.Numbers.{problemOf}
+use Rattle.model.specs.Operations.{readFile, writeProblem, writtenBuffer}
+use Rattle.examiner.specs.Outcomes.{Outcome, Results, Refusing, counts, onRead, onWritten}
+
+-- **examiner_read**
+abbrev pub readOutcome : List ℕ → Outcome
+readOutcome file = onRead (readFile file) (λ p. Results (counts p)) Refusing
+
+-- **examiner_write**, where `out` has room for that many bytes
+abbrev pub writeOutcome : List ℕ → ℕ → Outcome
+writeOutcome file room = onRead (readFile file) (λ p. onWritten (writeProblem p room)) Refusing
+
+abbrev pub writeOut : List ℕ → List ℕ → List ℕ
+writeOut file out = onRead (readFile file) (λ p. writtenBuffer p out) (λ f. out)
+
+-- **examiner_write_fields**: the fields are a problem's numbers after the edition, which is 1.
+abbrev pub fieldsProblem : List ℕ → Problem
+fieldsProblem fields = problemOf (1 ∷ fields)
+
+abbrev pub fieldsOutcome : List ℕ → ℕ → Outcome
+fieldsOutcome fields room = onWritten (writeProblem (fieldsProblem fields) room)

@@ -1,0 +1,44 @@
+-- What an export gives back, and how its caller is told.
+use Prim.Native.Nat.{ℕ}
+use mathlib.Core.List.{List, [], _∷_}
+use lib.Seq.{sets}
+use Rattle.model.specs.declared.Refusal.{Refusal}
+use Rattle.model.specs.declared.Verdict.{Verdict}
+use Rattle.model.specs.declared.Verdict.the-variants as verdict
+use Rattle.model.specs.declared.Problem.{Problem}
+use Rattle.model.specs.declared.ReadAnswer.{ReadAnswer}
+use Rattle.model.specs.declared.WriteAnswer.{WriteAnswer}
+use Rattle.model.specs.declared.WriteAnswer.the-variants as write
+use Rattle.model.specs.Refusals.{number, place}
+
+-- A result's numbers, or a refusal.
+pub data Outcome : Type 0 where
+  Results : List ℕ → Outcome
+  Refusing : Refusal → Outcome
+
+-- The number returned: 0, or the refusal's number.
+abbrev pub status : Outcome → ℕ
+status (Results ns) = 0
+status (Refusing f) = number f
+
+-- What `answer` holds afterwards: the result's numbers, or the refusal's place, at the front; the other places keep their values.
+abbrev pub answerAfter : Outcome → List ℕ → List ℕ
+answerAfter (Results ns) answer = sets answer 0 ns
+answerAfter (Refusing f) answer = sets answer 0 (place f ∷ [])
+
+-- An operation on a file goes on with the problem that Read gives; otherwise Read's refusal stands.
+abbrev pub onVerdict : {A : Type 0} → Verdict → Problem → (Problem → A) → (Refusal → A) → A
+onVerdict verdict.Accepted p good refused = good p
+onVerdict (verdict.Refused f) p good refused = refused f
+
+abbrev pub onRead : {A : Type 0} → ReadAnswer → (Problem → A) → (Refusal → A) → A
+onRead r good refused = onVerdict (r .verdict) (r .problem) good refused
+
+-- Read's numbers.
+abbrev pub counts : Problem → List ℕ
+counts p = p .«function_count» ∷ p .«vertex_count» ∷ p .«edge_count» ∷ p .«loop_count» ∷ []
+
+-- Write's number: the bytes written.
+abbrev pub onWritten : WriteAnswer → Outcome
+onWritten (write.Written n) = Results (n ∷ [])
+onWritten (write.Refused f) = Refusing f

@@ -1,0 +1,113 @@
+// The library for C and Rust callers: an operation an export. Each answers 0, or the refusal's number with its place in answer[0].
+use model::Problem;
+use model::Refusal;
+use model::Verdict;
+use model::WriteAnswer;
+ghost use mathlib.Core.Path.{_≡_};
+ghost use mathlib.Core.List.{_∷_};
+ghost use lib.ListN.{length};
+ghost use Rattle.model.specs.Operations.{writtenBuffer};
+ghost use Rattle.examiner.specs.Outcomes.{Results, Refusing, status, answerAfter, counts, onWritten};
+ghost use Rattle.examiner.specs.Exports.{readOutcome, writeOutcome, writeOut, fieldsProblem, fieldsOutcome};
+ghost use Rattle.examiner.specs.Steps.{refusalIn};
+
+// The refusal that a verdict holds.
+fn refusal_in(verdict: Verdict) -> Refusal
+    ensures { λ r. ⌜ r ≡ refusalIn verdict ⌝ }
+{
+    match verdict {
+        Verdict::Refused(refusal) => refusal,
+        Verdict::Accepted => Refusal::Ended(0),
+    }
+}
+
+// Tells a refusal.
+fn refuse(refusal: Refusal, answer: &mut [u64; 4]) -> u32
+    ensures { λ r. ⌜ r ≡ status (Refusing refusal) ⌝ ∗ ⌜ now (answer .exit) ≡ answerAfter (Refusing refusal) (now (answer .entry)) ⌝ }
+{
+    answer[0] = model::place_of(refusal);
+    model::number_of(refusal)
+}
+
+// Tells what Write gave.
+fn tell_written(written: WriteAnswer, answer: &mut [u64; 4]) -> u32
+    ensures { λ r. ⌜ r ≡ status (onWritten written) ⌝ ∗ ⌜ now (answer .exit) ≡ answerAfter (onWritten written) (now (answer .entry)) ⌝ }
+{
+    match written {
+        WriteAnswer::Refused(refusal) => refuse(refusal, answer),
+        WriteAnswer::Written(count) => {
+            answer[0] = count as u64;
+            0
+        }
+    }
+}
+
+// Tells the numbers of functions, vertices, edges and loops.
+fn tell_counts(problem: Problem, answer: &mut [u64; 4]) -> u32
+    ensures { λ r. ⌜ r ≡ status (Results (counts problem)) ⌝ ∗ ⌜ now (answer .exit) ≡ answerAfter (Results (counts problem)) (now (answer .entry)) ⌝ }
+{
+    answer[0] = problem.function_count as u64;
+    answer[1] = problem.vertex_count as u64;
+    answer[2] = problem.edge_count as u64;
+    answer[3] = problem.loop_count as u64;
+    0
+}
+
+// **Read**: the numbers of functions, vertices, edges and loops.
+#[no_mangle]
+pub extern "C" fn examiner_read(file: &[u8], answer: &mut [u64; 4]) -> u32
+    ensures { λ r. ⌜ r ≡ status (readOutcome (now (file .entry))) ⌝ }
+    ensures { λ r. ⌜ now (answer .exit) ≡ answerAfter (readOutcome (now (file .entry))) (now (answer .entry)) ⌝ }
+{
+    let read = file::read(file);
+    let verdict = read.verdict;
+    let Verdict::Accepted = verdict else {
+        return refuse(refusal_in(verdict), answer);
+    };
+    tell_counts(read.problem, answer)
+}
+
+// **Write** of the problem that the file holds: the bytes written, and the file in `out`.
+#[no_mangle]
+pub extern "C" fn examiner_write(file: &[u8], out: &mut [u8], answer: &mut [u64; 4]) -> u32
+    ensures { λ r. ⌜ r ≡ status (writeOutcome (now (file .entry)) (length (now (out .entry)))) ⌝ }
+    ensures { λ r. ⌜ now (answer .exit) ≡ answerAfter (writeOutcome (now (file .entry)) (length (now (out .entry)))) (now (answer .entry)) ⌝ }
+    ensures { λ r. ⌜ now (out .exit) ≡ writeOut (now (file .entry)) (now (out .entry)) ⌝ }
+{
+    let read = file::read(file);
+    let verdict = read.verdict;
+    let Verdict::Accepted = verdict else {
+        return refuse(refusal_in(verdict), answer);
+    };
+    tell_written(file::write(read.problem, out), answer)
+}
+
+// A problem's numbers: the edition, which is 1, and then the fields.
+fn with_edition(fields: [u32; 1445]) -> [u64; 1446]
+    ensures { λ r. ⌜ r ≡ 1 ∷ fields ⌝ }
+{
+    let mut numbers = [0u64; 1446];
+    numbers[0] = 1;
+    let mut i: usize = 0;
+    while i < 1445 {
+        numbers[i + 1] = fields[i] as u64;
+        i += 1;
+    }
+    numbers
+}
+
+// **Write** of any record, lawful or not, given as its numbers without the edition: the bytes written, and the file in `out`.
+#[no_mangle]
+pub extern "C" fn examiner_write_fields(
+    fields: &[u32; 1445],
+    out: &mut [u8],
+    answer: &mut [u64; 4],
+) -> u32
+    ensures { λ r. ⌜ r ≡ status (fieldsOutcome (now (fields .entry)) (length (now (out .entry)))) ⌝ }
+    ensures { λ r. ⌜ now (answer .exit) ≡ answerAfter (fieldsOutcome (now (fields .entry)) (length (now (out .entry)))) (now (answer .entry)) ⌝ }
+    ensures { λ r. ⌜ now (out .exit) ≡ writtenBuffer (fieldsProblem (now (fields .entry))) (now (out .entry)) ⌝ }
+{
+    let numbers = with_edition(*fields);
+    let problem = numbers::problem_of(&numbers);
+    tell_written(file::write(problem, out), answer)
+}

@@ -1,0 +1,59 @@
+// A problem is written and read back, and the two are compared.
+use crate::show;
+use model::Problem;
+use model::Refusal;
+use model::Verdict;
+use model::WriteAnswer;
+ghost use mathlib.Core.Path.{_≡_};
+ghost use mathlib.Core.Bool.{true};
+
+// Whether two problems' numbers are the same.
+fn same_numbers(a: [u64; 1446], b: [u64; 1446]) -> bool
+    ensures { λ r. ⌜ (r ≡ true → a ≡ b) × (a ≡ b → r ≡ true) ⌝ }
+{
+    let mut i: usize = 0;
+    while i < 1446 {
+        if a[i] != b[i] {
+            return false;
+        }
+        i += 1;
+    }
+    true
+}
+
+fn front(buf: &[u8], count: usize) -> &[u8] {
+    if count <= buf.len() {
+        &buf[0..count]
+    } else {
+        buf
+    }
+}
+
+fn refused(name: &[u8], refusal: Refusal) {
+    show::refusal(name, model::number_of(refusal), model::place_of(refusal));
+}
+
+// Reads the file that was written, and shows whether it gives the problem again.
+fn read_back(name: &[u8], problem: Problem, file: &[u8]) {
+    let back = file::read(file);
+    let verdict = back.verdict;
+    match verdict {
+        Verdict::Refused(refusal) => refused(name, refusal),
+        Verdict::Accepted => {
+            let same = same_numbers(
+                numbers::numbers_of(problem),
+                numbers::numbers_of(back.problem),
+            );
+            show::read_back(name, file.len() as u64, same);
+        }
+    }
+}
+
+pub fn run(name: &[u8], problem: Problem) {
+    let mut out = io::buffer();
+    let written = file::write(problem, &mut out);
+    match written {
+        WriteAnswer::Refused(refusal) => refused(name, refusal),
+        WriteAnswer::Written(count) => read_back(name, problem, front(&out, count)),
+    }
+}
