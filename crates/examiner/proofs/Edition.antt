@@ -6,7 +6,7 @@ use native.Mathlib.Omega.{arith}
 use native.Mathlib.Numerals.{add-one}
 use lib.ListN.{length, getD, set, replicate}
 use Rattle.model.proofs.Lists.{is-table}
-use Rattle.numbers.proofs.Lists.{Filled, filled-none, filled-more, filled-all}
+use Rattle.numbers.proofs.Filling.{Filled, filled-none, filled-more, filled-all}
 
 module _ (fields : List ℕ) where
   -- The first i numbers after the edition are in place.
