@@ -9,7 +9,7 @@ use Rattle.model.specs.declared.Problem.{Problem}
 use Rattle.model.specs.declared.ReadAnswer.{ReadAnswer}
 use Rattle.model.specs.Operations.{readFile}
 use Rattle.examiner.specs.Outcomes.{Outcome, status, answerAfter, onVerdict, onRead}
-use Rattle.examiner.specs.Steps.{refusalIn}
+use Rattle.model.specs.Refusals.{refusalIn}
 
 module _ {A : Type 0} (good : Problem → A) (refused : Refusal → A) (s : List ℕ) (r : ReadAnswer) (is : r ≡ readFile s) where
   at-verdict : (v : Verdict) → r .verdict ≡ v → onVerdict v (r .problem) good refused ≡ onRead (readFile s) good refused

@@ -9,17 +9,6 @@ ghost use lib.ListN.{length};
 ghost use Rattle.model.specs.Operations.{writtenBuffer};
 ghost use Rattle.examiner.specs.Outcomes.{Results, Refusing, status, answerAfter, counts, onWritten};
 ghost use Rattle.examiner.specs.Exports.{readOutcome, writeOutcome, writeOut, fieldsProblem, fieldsOutcome};
-ghost use Rattle.examiner.specs.Steps.{refusalIn};
-
-// The refusal that a verdict holds.
-fn refusal_in(verdict: Verdict) -> Refusal
-    ensures { λ r. ⌜ r ≡ refusalIn verdict ⌝ }
-{
-    match verdict {
-        Verdict::Refused(refusal) => refusal,
-        Verdict::Accepted => Refusal::Ended(0),
-    }
-}
 
 // Tells a refusal.
 fn refuse(refusal: Refusal, answer: &mut [u64; 4]) -> u32
@@ -62,7 +51,7 @@ pub extern "C" fn examiner_read(file: &[u8], answer: &mut [u64; 4]) -> u32
     let read = file::read(file);
     let verdict = read.verdict;
     let Verdict::Accepted = verdict else {
-        return refuse(refusal_in(verdict), answer);
+        return refuse(model::refusal_in(verdict), answer);
     };
     tell_counts(read.problem, answer)
 }
@@ -77,7 +66,7 @@ pub extern "C" fn examiner_write(file: &[u8], out: &mut [u8], answer: &mut [u64;
     let read = file::read(file);
     let verdict = read.verdict;
     let Verdict::Accepted = verdict else {
-        return refuse(refusal_in(verdict), answer);
+        return refuse(model::refusal_in(verdict), answer);
     };
     tell_written(file::write(read.problem, out), answer)
 }

@@ -10,7 +10,7 @@ ghost use Rattle.model.specs.Operations.{Checked};
 ghost use Rattle.model.specs.Search.{lowestBelow};
 ghost use Rattle.model.specs.Costs.{sizeOf};
 ghost use Rattle.model.specs.Layouts.{regionOf, largestIn, needOf, judgeLayout};
-ghost use Rattle.layout.specs.Answers.{layoutAnswer};
+ghost use Rattle.layout.specs.Answers.{layoutAnswer, refusalIn};
 
 // What judging a layout says: the bytes that it needs, which the scratchpad has, or the refusal.
 pub enum LayoutAnswer {
@@ -116,4 +116,14 @@ pub fn judge(l: &[u64; 1446], layout: &[u8]) -> LayoutAnswer
         return LayoutAnswer::Refused(Refusal::ScratchpadFull(needed.0));
     }
     LayoutAnswer::Fits(needed)
+}
+
+// The refusal that an answer holds.
+pub fn refusal_in(answer: LayoutAnswer) -> Refusal
+    ensures { λ r. ⌜ r ≡ refusalIn answer ⌝ }
+{
+    match answer {
+        LayoutAnswer::Refused(refusal) => refusal,
+        LayoutAnswer::Fits(need) => Refusal::ScratchpadFull(need.0),
+    }
 }

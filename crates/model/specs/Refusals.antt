@@ -2,6 +2,8 @@
 use Prim.Native.Nat.{ℕ}
 use Rattle.model.specs.declared.Refusal.{Refusal}
 use Rattle.model.specs.declared.Refusal.the-variants.{Ended, Misspelt, OutOfRange, NotAscending, LeftOver, LacksEdge, BadRange, WrongEdge, NoReturn, ShortBuffer, LongLayout, UnknownRegion, ScratchpadFull, PastLimit, BadStep, PastBound, LongWalk}
+use Rattle.model.specs.declared.Verdict.{Verdict}
+use Rattle.model.specs.declared.Verdict.the-variants as verdict
 
 abbrev pub number : Refusal → ℕ
 number (Ended at) = 1
@@ -40,3 +42,8 @@ place (PastLimit at) = at
 place (BadStep at) = at
 place (PastBound at) = at
 place (LongWalk at) = at
+
+-- The refusal that a verdict holds. (Asked only where there is one.)
+unfoldable pub refusalIn : Verdict → Refusal
+refusalIn (verdict.Refused f) = f
+refusalIn verdict.Accepted = Ended 0

@@ -1,7 +1,7 @@
 // The problem of document 01 and what the operations answer. What they mean is in specs/.
 ghost use mathlib.Core.Path.{_≡_};
 ghost use Prim.Native.Nat.{ℕ, _+_, _≤_, _<_};
-ghost use Rattle.model.specs.Refusals.{number, place};
+ghost use Rattle.model.specs.Refusals.{number, place, refusalIn};
 
 // Sizes count bytes, costs count cycles; no sum takes one of each.
 pub struct Bytes(pub u64);
@@ -187,5 +187,15 @@ pub fn place_of(refusal: Refusal) -> u64
         | Refusal::BadStep(at)
         | Refusal::PastBound(at)
         | Refusal::LongWalk(at) => at,
+    }
+}
+
+// The refusal that a verdict holds.
+pub fn refusal_in(verdict: Verdict) -> Refusal
+    ensures { λ r. ⌜ r ≡ refusalIn verdict ⌝ }
+{
+    match verdict {
+        Verdict::Refused(refusal) => refusal,
+        Verdict::Accepted => Refusal::Ended(0),
     }
 }

@@ -1,9 +1,9 @@
 -- `refusal_in` meets its definition.
 use mathlib.Core.Path.{sym, ap}
-use Rattle.examiner.specs.Steps.{refusalIn}
+use Rattle.model.specs.Refusals.{refusalIn}
 use borrow.Author.Needs.{needs}
-use Rattle.examiner.proofs.refusal_in.Statement.{statement}
-use Rattle.examiner.proofs.refusal_in.Tie as tie
+use Rattle.model.proofs.refusal_in.Statement.{statement}
+use Rattle.model.proofs.refusal_in.Tie as tie
 
 enum-known-verdict : tie.Need-enum-known-verdict
 enum-known-verdict c = search needs
