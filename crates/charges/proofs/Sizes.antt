@@ -1,0 +1,65 @@
+-- How large the visit charges and first loads of a checked problem are.
+use Prim.Native.Nat.{ℕ, _+_, _*_, _≤_, _<_}
+use mathlib.Core.Path.{_≡_}
+use mathlib.Core.List.{List}
+use mathlib.Core.Bool.{Bool, cond}
+use native.Mathlib.Omega.{arith}
+use lib.ListN.{getD}
+use Rattle.model.specs.Numbers.{problemOf}
+use Rattle.model.specs.Operations.{Checked}
+use Rattle.model.specs.Costs.{functionOf, ownCost, loadCost, total}
+use Rattle.model.specs.Charges.{visitCharge, firstLoads}
+use Rattle.model.proofs.Cases.{by-cond}
+use Rattle.lookup.proofs.Places.{few-functions, few-vertices, load-high, function-below, cost-high}
+use Rattle.layout.proofs.Sums.{Upto, total-more, total-high}
+use Rattle.charges.specs.Tests.{chargeLimit, firstLoad, firstLimit, LoadedFirst}
+
+module _ (l : List ℕ) (checked : Checked l) where
+  -- A load cost that is charged or not.
+  load-or-none : (t : Bool) (f : ℕ) → f < problemOf l .«function_count» → cond t (loadCost (problemOf l) f) 0 ≤ 16777215
+  load-or-none t f below = by-cond (λ (x : ℕ). x ≤ 16777215) t (λ e. load-high l checked f below) (λ e. omega arith)
+
+  -- The word of a vertex and its own function.
+  pub word-below : (v : ℕ) → v < problemOf l .«vertex_count» → 32 * v + functionOf (problemOf l) v < 4096
+  word-below v below = omega (arith, few-vertices l checked, few-functions l checked, function-below l checked v below)
+
+  module _ (v : ℕ) (below : v < problemOf l .«vertex_count») {f : ℕ} (of-v : f ≡ functionOf (problemOf l) v) where
+    pub own-function : Checked l × (f < problemOf l .«function_count»)
+    own-function = (checked, omega (arith, function-below l checked v below))
+
+    pub cost-and-load : ownCost (problemOf l) v + loadCost (problemOf l) f ≤ chargeLimit
+    cost-and-load = omega (arith, cost-high l checked v below, load-high l checked f (own-function .1))
+
+  pub visit-high : (contested : ℕ → Bool) (v : ℕ) → v < problemOf l .«vertex_count» → visitCharge (problemOf l) contested v ≤ chargeLimit
+  unfolding visitCharge
+  visit-high contested v below =
+      omega (
+        arith,
+        cost-high l checked v below,
+        load-or-none (contested v) (functionOf (problemOf l) v) (function-below l checked v below),
+      )
+
+  module _ (cold : ℕ → Bool) where
+    -- The first loads of some of the functions.
+    some-loads-high : (n : ℕ) → n ≤ problemOf l .«function_count» → total n (firstLoad (problemOf l) cold) ≤ firstLimit
+    unfolding firstLoad
+    some-loads-high n within =
+        omega (
+          arith,
+          few-functions l checked,
+          total-high (firstLoad (problemOf l) cold) n 16777215 (λ f h. load-or-none (cold f) f (omega arith)),
+        )
+
+    pub loads-fit : {f loads load : ℕ} → Upto (λ n. total n (firstLoad (problemOf l) cold)) (problemOf l .«function_count») f loads →
+        f < problemOf l .«function_count» → load ≡ firstLoad (problemOf l) cold f → loads + load ≤ firstLimit
+    loads-fit {f} upto below load-is =
+        omega (
+          arith,
+          upto .is,
+          total-more (firstLoad (problemOf l) cold) f,
+          some-loads-high (f + 1) (omega arith),
+        )
+
+    pub loaded-first : {loads : ℕ} → loads ≡ firstLoads (problemOf l) cold → LoadedFirst (problemOf l) cold loads
+    unfolding firstLoads firstLoad
+    loaded-first is = record { loads-are = is; small = omega (arith, some-loads-high (problemOf l .«function_count») (omega arith)) }

@@ -1,0 +1,8 @@
+pub mod Bits
+pub mod Steps
+pub mod Sweeps
+pub mod Bounds
+pub mod Reached
+pub mod Flows
+pub mod Copies
+pub mod Answers
