@@ -1,4 +1,4 @@
--- Sums, searches and walks' charges that look at the same values are the same.
+-- Sums, searches and charges that look at the same values are the same.
 use Prim.Native.Nat.{ℕ, zero, suc, _+_, _<_}
 use mathlib.Core.Path.{_≡_, refl, ap}
 use mathlib.Core.Bool.{Bool, cond}
@@ -6,7 +6,7 @@ use native.Mathlib.Omega.{arith}
 use lib.Dec.{ltb}
 use Rattle.model.specs.declared.Problem.{Problem}
 use Rattle.model.specs.Search.{lowestFrom, existsBelow}
-use Rattle.model.specs.Costs.{loadCost, total, howMany}
+use Rattle.model.specs.Costs.{loadCost, total}
 use Rattle.model.specs.Charges.{visitCharge, firstLoads}
 
 pub total-agree : (n : ℕ) (s t : ℕ → ℕ) → ((i : ℕ) → i < n → s i ≡ t i) → total n s ≡ total n t
@@ -23,9 +23,6 @@ lowest-agree (suc left) i s t same =
 module _ (n : ℕ) (s t : ℕ → Bool) (same : (i : ℕ) → i < n → s i ≡ t i) where
   pub exists-agree : existsBelow n s ≡ existsBelow n t
   exists-agree = ap (λ (x : ℕ). ltb x n) (lowest-agree n 0 s t (λ k h. same k (omega arith)))
-
-  pub how-many-agree : howMany n s ≡ howMany n t
-  how-many-agree = total-agree n (λ i. cond (s i) 1 0) (λ i. cond (t i) 1 0) (λ i h. ap (λ (b : Bool). cond b 1 0) (same i h))
 
 module _ (p : Problem) where
   pub visit-agree : (c c′ : ℕ → Bool) (v : ℕ) → c v ≡ c′ v → visitCharge p c v ≡ visitCharge p c′ v

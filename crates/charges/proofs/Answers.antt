@@ -1,12 +1,12 @@
 -- The tests' answers, put together from what their parts answer.
 use Prim.Native.Nat.{ℕ, _+_, _*_, _≤_, _<_}
-use mathlib.Core.Path.{_≡_, sym, ap, _∙_}
+use mathlib.Core.Path.{_≡_, sym, _∙_}
 use mathlib.Core.List.{List}
 use mathlib.Core.Bool.{Bool, false, _&&_}
 use native.Mathlib.Nat.{add-zero}
 use native.Mathlib.Omega.{arith}
 use lib.ListN.{getD}
-use lib.Dec.{eqb, ltb}
+use lib.Dec.{eqb}
 use borrow.Author.Tests.{lt-ltb, le-ltb, eq-eqb, ne-eqb}
 use Rattle.model.specs.declared.Problem.{Problem}
 use Rattle.model.specs.Search.{existsBelow}
@@ -18,7 +18,8 @@ use Rattle.charges.specs.Tests.{bitTest, rivalBy, contestedBy, flagged, 
 
 -- A vertex is contested as the search among the functions says.
 module _ (p : Problem) (layout sets : List ℕ) (v : ℕ) where
-  pub rival-is : {f : ℕ} (g : ℕ) {r t : Bool} → f ≡ functionOf p v → r ≡ bitTest (getD sets (32 * v + f) 0) g && eqb (regionOf layout g) (regionOf layout f) →
+  pub rival-is : {f : ℕ} (g : ℕ) {r t : Bool} → f ≡ functionOf p v →
+      r ≡ bitTest (getD sets (32 * v + f) 0) g && eqb (regionOf layout g) (regionOf layout f) →
       r ≡ t → rivalBy p layout sets v g ≡ t
   unfolding rivalBy
   rival-is g of-v e q = rw (← of-v) (sym e ∙ q)

@@ -3,7 +3,6 @@ use Prim.Native.Nat.{ℕ, _<_}
 use mathlib.Core.Path.{_≡_, refl, ap, _∙_}
 use mathlib.Core.List.{List}
 use mathlib.Core.Bool.{Bool, true, false, cond, not, _&&_}
-use lib.ListN.{getD}
 use lib.Dec.{eqb}
 use Rattle.model.specs.declared.Problem.{Problem}
 use Rattle.model.specs.Costs.{functionOf}

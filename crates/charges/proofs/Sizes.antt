@@ -4,7 +4,6 @@ use mathlib.Core.Path.{_≡_}
 use mathlib.Core.List.{List}
 use mathlib.Core.Bool.{Bool, cond}
 use native.Mathlib.Omega.{arith}
-use lib.ListN.{getD}
 use Rattle.model.specs.Numbers.{problemOf}
 use Rattle.model.specs.Operations.{Checked}
 use Rattle.model.specs.Costs.{functionOf, ownCost, loadCost, total}

@@ -1,16 +1,16 @@
 -- Tables that hold the interference sets and the first reach of a checked problem tell which vertices are contested and which functions are cold; and
 -- its walks stay among its vertices, so that charges which agree there come to the same.
-use Prim.Native.Nat.{ℕ, _+_, _*_, _<_}
+use Prim.Native.Nat.{ℕ, _+_, _*_, _/_, _%_, _^_, _<_}
 use mathlib.Core.Path.{_≡_, refl, sym, ap, _∙_}
-use mathlib.Core.List.{List, [], _∷_, List·Memᴰ}
-use mathlib.Core.Bool.{Bool}
+use mathlib.Core.List.{List, _∷_}
+use mathlib.Core.Bool.{Bool, true}
 use mathlib.Core.Logic.{_↔_}
 use native.Mathlib.Omega.{arith}
-use lib.ListN.{length, getD}
+use lib.ListN.{getD}
 use borrow.Author.Tests.{eqb-true, eq-eqb}
 use Rattle.model.specs.declared.Edge.{Edge}
 use Rattle.model.specs.Zero.{zeroEdge}
-use Rattle.model.specs.Numbers.{problemOf, edgeAt}
+use Rattle.model.specs.Numbers.{problemOf}
 use Rattle.model.specs.Operations.{Checked}
 use Rattle.model.specs.Costs.{functionOf}
 use Rattle.model.specs.Walks.{EdgeOf, Walk, start, step}
@@ -19,10 +19,14 @@ use Rattle.model.specs.Charges.{Told, visitCharge, charges}
 use Rattle.model.specs.Results.{Member}
 use Rattle.model.proofs.Lists.{index-of}
 use Rattle.lookup.proofs.Places.{facts, vertex-count, function-below}
-use Rattle.graph.specs.Counts.{Counted, edgesIn}
+use Rattle.graph.specs.Counts.{Counted}
 use Rattle.graph.proofs.Places.{edge-count, edge-at}
 use Rattle.sound.proofs.Decide.{Tables, told}
-use Rattle.charges.specs.Tests.{memberTest, freshTest, contestedBy, coldBy, Charged}
+use Rattle.charges.specs.Tests.{bitTest, memberTest, freshTest, contestedBy, coldBy, Charged}
+
+-- A bit's test, for what its being set says.
+told-by-bit : (word g : ℕ) {P : Type 0} → Member word g ↔ P → (bitTest word g ≡ true) ↔ P
+told-by-bit word g iff = (λ e. iff .0 (eqb-true (word / 2 ^ g % 2) 1 e), λ x. eq-eqb (word / 2 ^ g % 2) 1 (iff .1 x))
 
 module _ {l : List ℕ} (checked : Checked l) where
   counted : Counted l
@@ -73,8 +77,8 @@ module _ {l : List ℕ} (checked : Checked l) where
         record {
           vertex = λ v h walk. walk-below walk;
           function = λ v h walk. walk-function walk;
-          member = λ v g below. (λ e. sets-hold v _ g below (function-below l checked v below) .0 (eqb-true _ 1 e), λ i. eq-eqb _ 1 (sets-hold v _ g below (function-below l checked v below) .1 i));
-          reached = λ v below. (λ e. fresh-holds v _ below (function-below l checked v below) .0 (eqb-true _ 1 e), λ i. eq-eqb _ 1 (fresh-holds v _ below (function-below l checked v below) .1 i));
+          member = λ v g below. told-by-bit _ g (sets-hold v (functionOf (problemOf l) v) g below (function-below l checked v below));
+          reached = λ v below. told-by-bit (getD fresh v 0) _ (fresh-holds v (functionOf (problemOf l) v) below (function-below l checked v below));
         }
 
     pub told-by-tables : Told (problemOf l) layout (contestedBy (problemOf l) layout sets) (coldBy (problemOf l) layout sets fresh)

@@ -11,7 +11,7 @@ ghost use Rattle.model.specs.Layouts.{regionOf};
 ghost use Rattle.model.specs.Charges.{visitCharge};
 ghost use Rattle.charges.specs.Tests.{bitTest, contestedBy, flagged, earlyFlagged, coldFlagged, chargeAt, firstLoad, Tallied, Charged, LoadedFirst};
 
-pub fn has_bit(word: u32, g: usize) -> bool
+fn has_bit(word: u32, g: usize) -> bool
     requires { ⌜ g < 32 ⌝ }
     ensures { λ r. ⌜ r ≡ bitTest word g ⌝ }
 {

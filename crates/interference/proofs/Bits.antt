@@ -4,12 +4,9 @@ use mathlib.Core.Logic.{_⊎_, inl, inr, ⊎-elim, _↔_}
 use Prim.Native.Nat.{ℕ, zero, suc, _+_, _-_, _*_, _/_, _%_, _^_, _≤_, _<_, max}
 use native.Mathlib.Nat.{pow-suc, mul-comm, one-mul, div-one, div-div-eq-div-mul, mod-eq-of-lt}
 use native.Mathlib.Omega.{arith}
-use lib.Dec.{eqb}
 use lib.Pow.{pow-pos, pow-lt, shr-shr}
 use lib.Bits.{bitOr, bitXor, differ, or-step, xor-step, or-add-and, and-le-r}
-use borrow.Author.Tests.{eqb-true, eqb-false}
 use Rattle.model.specs.Results.{Member}
-use Rattle.model.proofs.Cases.{by-bool}
 
 -- Bit k of w.
 abbrev bit : ℕ → ℕ → ℕ

@@ -1,6 +1,6 @@
 -- The ranges of the numbers of a checked problem, in the terms of the problem: counts, the ends of edges, the functions of vertices.
 use Prim.Native.Nat.{ℕ, _+_, _*_, _≤_, _<_}
-use mathlib.Core.Path.{_≡_, refl, sym, ap, _∙_, subst}
+use mathlib.Core.Path.{_≡_, ap}
 use mathlib.Core.List.{List}
 use native.Mathlib.Omega.{arith}
 use lib.ListN.{length, getD}
@@ -8,7 +8,7 @@ use Rattle.model.specs.declared.Vertex.{Vertex}
 use Rattle.model.specs.declared.Edge.{Edge}
 use Rattle.model.specs.Zero.{zeroVertex, zeroEdge}
 use Rattle.model.specs.Numbers.{problemOf, vertexAt, edgeAt}
-use Rattle.model.specs.Graph.{edge, edgesOf, verticesOf}
+use Rattle.model.specs.Graph.{edge, edgesOf}
 use Rattle.model.specs.Costs.{functionOf}
 use Rattle.model.specs.Operations.{Checked}
 use Rattle.model.proofs.Lists.{length-take-table, getD-take-table}
@@ -41,12 +41,9 @@ module _ (l : List ℕ) (ok : Checked l) where
     unfolding problemOf
     function-at = ap (λ (x : Vertex). x .function) (getD-take-table (getD l 67 0) 128 (vertexAt l) v zeroVertex (facts .vertices) here)
 
-    pub function-below : functionOf (problemOf l) v < problemOf l .«function_count»
+    function-below : functionOf (problemOf l) v < problemOf l .«function_count»
     unfolding problemOf
     function-below = omega (arith, function-at, facts .function v here)
-
-    pub function-small : functionOf (problemOf l) v < 32
-    function-small = omega (arith, function-below, few-functions)
 
     pub vertex-small : v < 128
     vertex-small = omega (arith, few-vertices)
@@ -64,24 +61,21 @@ module _ (l : List ℕ) (ok : Checked l) where
     unfolding problemOf
     from-below = omega (arith, ap (λ (e : Edge). e .from) edge-at, facts .from i in-list)
 
-    pub to-below : to (problemOf l) i < problemOf l .«vertex_count»
+    to-below : to (problemOf l) i < problemOf l .«vertex_count»
     unfolding problemOf
     to-below = omega (arith, ap (λ (e : Edge). e .to) edge-at, facts .to i in-list)
 
-    -- Where the words of edge i stand, for its ends u and v and the function g of u.
-    pub start-there : (u : ℕ) → u ≡ from (problemOf l) i → u < problemOf l .«vertex_count»
-    start-there u is-u = omega (arith, from-below)
+    -- Its ends u and v, and the function g of u, are in the ranges that the tables ask.
+    module _ (u v : ℕ) (is-u : u ≡ from (problemOf l) i) (is-v : v ≡ to (problemOf l) i) where
+      pub ends-there : (u < problemOf l .«vertex_count») × (v < problemOf l .«vertex_count»)
+      ends-there = omega (arith, from-below, to-below)
 
-    pub start-small : (u : ℕ) → u ≡ from (problemOf l) i → u < 128
-    start-small u is-u = omega (arith, from-below, few-vertices)
+      pub ends-small : (u < 128) × (v < 128)
+      ends-small = omega (arith, ends-there, few-vertices)
 
-    pub end-small : (v : ℕ) → v ≡ to (problemOf l) i → v < 128
-    end-small v is-v = omega (arith, to-below, few-vertices)
+      pub function-small : (g : ℕ) → g ≡ functionOf (problemOf l) u → g < 32
+      function-small g is-g = omega (arith, function-below u (ends-there .0), few-functions)
 
-    pub start-function-small : (u g : ℕ) → u ≡ from (problemOf l) i → g ≡ functionOf (problemOf l) u → g < 32
-    start-function-small u g is-u is-g = omega (arith, function-small u (start-there u is-u))
-
-    pub row-places : (u v g count f : ℕ) → u ≡ from (problemOf l) i → v ≡ to (problemOf l) i → g ≡ functionOf (problemOf l) u →
-        count ≡ problemOf l .«function_count» → f < count → ((u < 128) × (v < 128)) × ((f < 32) × (g < 32))
-    row-places u v g count f is-u is-v is-g is-count lt =
-        ((start-small u is-u, end-small v is-v), (omega (arith, few-functions), start-function-small u g is-u is-g))
+      pub row-places : (g count f : ℕ) → g ≡ functionOf (problemOf l) u → count ≡ problemOf l .«function_count» → f < count →
+          ((u < 128) × (v < 128)) × ((f < 32) × (g < 32))
+      row-places g count f is-g is-count lt = (ends-small, (omega (arith, few-functions), function-small g is-g))

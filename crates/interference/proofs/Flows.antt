@@ -1,22 +1,19 @@
 -- The flows over the edges: each member that a step adds has a walk, and a table that no edge changes holds all that walks show.
 use Prim.Native.Nat.{ℕ, zero, suc, _+_, _*_, _/_, _%_, _≤_, _<_}
-use mathlib.Core.Path.{_≡_, refl, sym, ap, subst, _∙_}
+use mathlib.Core.Path.{_≡_, refl, sym, subst, _∙_}
 use mathlib.Core.List.{List}
 use mathlib.Core.Bool.{Bool}
 use mathlib.Core.Logic.{_⊎_, inl, inr, _↔_}
 use native.Mathlib.Omega.{arith}
-use lib.ListN.{length, getD, set, replicate, getD-replicate, length-replicate, length-set}
-use lib.Dec.{ltb}
-use lib.Seq.{getD-set-same, getD-set-other}
+use lib.ListN.{length, getD, set, replicate, length-replicate, length-set}
 use Rattle.model.specs.declared.Edge.{Edge}
 use Rattle.model.specs.declared.Problem.{Problem}
 use Rattle.model.specs.Zero.{zeroEdge}
 use Rattle.model.specs.Graph.{edge, edgesOf}
 use Rattle.model.specs.Costs.{functionOf}
 use Rattle.model.specs.Walks.{EdgeOf, Walk}
-use Rattle.model.specs.Interference.{Interferes, Fresh}
+use Rattle.model.specs.Interference.{Interferes}
 use Rattle.model.specs.Results.{Member}
-use Rattle.model.proofs.Cases.{by-order}
 use Rattle.model.proofs.Lists.{mem-getD, index-of}
 use Rattle.sound.proofs.Flow.{first, further, complete, fresh-start, fresh-further, fresh-complete}
 use Rattle.interference.specs.Words.{Has, Step, Sound, Swept, Closed}
@@ -48,6 +45,13 @@ module _ (p : Problem) where
   by-number : (P : Edge → Type 0) → ((i : ℕ) → i < length (edgesOf p) → P (edge (edgesOf p) i)) → (u v : ℕ) → EdgeOf p u v → P (record { from = u; to = v })
   by-number P all u v e = let r = index-of zeroEdge e in subst P (r .2) (all (r .0) (r .1))
 
+  -- Word 32 v + f is that of v and f.
+  at-word : (v f b : ℕ) → f < 32 → InSet p (32 * v + f) b ↔ Interferes (functionOf p) (EdgeOf p) v f b
+  at-word v f b small =
+      let row : (32 * v + f) / 32 ≡ v = omega arith in
+      let column : (32 * v + f) % 32 ≡ f = omega arith in
+      (λ h. rw (row, column) at h, λ h. rw (row, column) h)
+
   -- Interference sets, where a walk comes to the start of each edge.
   module _ (starts : (i : ℕ) → i < length (edgesOf p) → (h : List ℕ) × Walk (EdgeOf p) (from p i) h) (i : ℕ) (here : i < length (edgesOf p)) (f : ℕ) (small : f < 32) where
     -- A member that edge i brings to the set of its end and f.
@@ -60,15 +64,10 @@ module _ (p : Problem) where
             subst (λ (x : ℕ). Interferes (functionOf p) (EdgeOf p) (to p i) f x) (sym e)
             (first (functionOf p) (EdgeOf p) (from p i) (to p i) f h walk (is-edge i here) ne)
         at (inr m) =
-            let row : (32 * from p i + f) / 32 ≡ from p i = omega arith in
-            let column : (32 * from p i + f) % 32 ≡ f = omega arith in
-            further (functionOf p) (EdgeOf p) (from p i) (to p i) f b (rw (row, column) at (sound (32 * from p i + f) b m)) (is-edge i here) ne
+            further (functionOf p) (EdgeOf p) (from p i) (to p i) f b (at-word (from p i) f b small .0 (sound (32 * from p i + f) b m)) (is-edge i here) ne
 
     in-place : (ws : List ℕ) → Sound (InSet p) ws → (k b : ℕ) → SetGains ws (from p i) (to p i) f (functionOf p (from p i)) k b → InSet p k b
-    in-place ws sound k b (e, gain) =
-        let row : k / 32 ≡ to p i = omega arith in
-        let column : k % 32 ≡ f = omega arith in
-        rw (row, column) (brought ws sound b gain)
+    in-place ws sound k b (e, gain) = subst (λ (x : ℕ). InSet p x b) (sym e) (at-word (to p i) f b small .1 (brought ws sound b gain))
 
     pub set-step : (u v g : ℕ) → u ≡ from p i → v ≡ to p i → g ≡ functionOf p u → (ws after : List ℕ) (changed : Bool) →
         Step (SetGains ws u v f g) ws after changed → Swept (InSet p) (SetPassed p i f) ws after changed
@@ -81,14 +80,11 @@ module _ (p : Problem) where
   pub set-table : (after : List ℕ) → p .«function_count» ≤ 32 → Closed (InSet p) (RowsPassed p) (replicate 4096 0) after → SetTable p after
   set-table after few closed = record {
     long = closed .grown .long ∙ length-replicate {A = ℕ} 4096 0;
-    member = λ v f g _ lt. (sound v f g (omega arith), λ i. complete (functionOf p) (EdgeOf p) (λ x y. Has after (32 * x + f) y) f (settled f lt) g (i .1 .1) (i .1 .2));
+    member = λ v f g _ lt. (λ m. at-word v f g (omega arith) .0 (sound (32 * v + f) g m), λ i. complete (functionOf p) (EdgeOf p) (λ x y. Has after (32 * x + f) y) f (settled f lt) g (i .1 .1) (i .1 .2));
   }
     where
-      sound : (v f g : ℕ) → f < 32 → Has after (32 * v + f) g → Interferes (functionOf p) (EdgeOf p) v f g
-      sound v f g small m =
-          let row : (32 * v + f) / 32 ≡ v = omega arith in
-          let column : (32 * v + f) % 32 ≡ f = omega arith in
-          rw (row, column) at (closed .grown .sound (λ k b h. absurd (empty 4096 k b h)) (32 * v + f) g m)
+      sound : Sound (InSet p) after
+      sound = closed .grown .sound (λ k b h. absurd (empty 4096 k b h))
 
       settled : (f : ℕ) → f < p .«function_count» → (u v : ℕ) → EdgeOf p u v → (functionOf p u ≡ f → ⊥) →
           Has after (32 * v + f) (functionOf p u) × ((g : ℕ) → Has after (32 * u + f) g → Has after (32 * v + f) g)

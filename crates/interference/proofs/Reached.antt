@@ -1,10 +1,9 @@
 -- Every vertex of a checked problem is reached by some walk, since each has an edge from a lower one.
-use Prim.Native.Nat.{ℕ, zero, suc, _≤_, _<_}
-use mathlib.Core.Path.{_≡_, refl, sym, subst}
+use Prim.Native.Nat.{ℕ, zero, suc, _<_}
+use mathlib.Core.Path.{subst}
 use mathlib.Core.List.{List, [], _∷_}
 use native.Mathlib.Omega.{arith}
 use lib.ListN.{length}
-use Rattle.model.specs.declared.Edge.{Edge}
 use Rattle.model.specs.Numbers.{problemOf}
 use Rattle.model.specs.Graph.{edgesOf, loopsOf}
 use Rattle.model.specs.Walks.{EdgeOf, Walk, start, step}

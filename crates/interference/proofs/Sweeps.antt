@@ -1,14 +1,14 @@
 -- Steps put together to sweeps, and sweeps until nothing changes: what holds at each turn, and that they come to an end.
-use Prim.Native.Nat.{ℕ, zero, suc, _+_, _-_, _*_, _^_, _≤_, _<_}
+use Prim.Native.Nat.{ℕ, suc, _+_, _-_, _*_, _^_, _≤_, _<_}
 use mathlib.Core.Path.{_≡_, refl, sym, ap, subst, _∙_}
 use mathlib.Core.List.{List, [], _∷_}
-use mathlib.Core.Bool.{Bool, true, false}
+use mathlib.Core.Bool.{Bool, true, false, _||_}
 use mathlib.Core.Logic.{⊎-elim}
 use native.Mathlib.Nat.{suc-mul}
 use native.Mathlib.Omega.{arith}
 use lib.ListN.{length, getD}
 use borrow.Author.Count.{below-more}
-use Rattle.model.proofs.Cases.{by-bool, true-not-false}
+use Rattle.model.proofs.Cases.{true-not-false}
 use Rattle.interference.specs.Words.{Has, sum, Step, Sound, Grown, Swept, Closed}
 
 -- What holds of the steps below n.
@@ -59,22 +59,20 @@ module _ (Good : ℕ → ℕ → Type 0) where
       settled = λ _ i h. absurd (omega arith);
     }
 
-    module _ (i : ℕ) (ws mid after : List ℕ) (changed now : Bool) (s : Swept Good (Below P i) ws mid changed) (t : Swept Good (P i) mid after now) where
-      pub one-changed : now ≡ true → (next : Bool) → next ≡ true → Swept Good (Below P (i + 1)) ws after next
-      one-changed e next is = rw is (record {
-        grown = grown-more (s .grown) (t .grown);
-        raised = λ _. omega (arith, grows (Below P i) ws mid changed s, t .raised e);
-        same = λ q. true-not-false q;
-        settled = λ q. true-not-false q;
-      })
-
-      pub none-changed : now ≡ false → (next : Bool) → next ≡ changed → Swept Good (Below P (i + 1)) ws after next
-      none-changed e next is = rw is (record {
-        grown = grown-more (s .grown) (t .grown);
-        raised = λ q. omega (arith, s .raised q, ap sum (t .same e));
-        same = λ q. t .same e ∙ s .same q;
-        settled = λ q. below-more (λ (k : ℕ). P k after) i (subst (Below P i) (sym (t .same e)) (s .settled q)) (t .settled e);
-      })
+    pub one-more : (i : ℕ) (ws mid after : List ℕ) (changed now : Bool) → Swept Good (Below P i) ws mid changed → Swept Good (P i) mid after now →
+        Swept Good (Below P (i + 1)) ws after (changed || now)
+    one-more i ws mid after true now s t = record {
+      grown = grown-more (s .grown) (t .grown);
+      raised = λ _. omega (arith, s .raised refl, grows (P i) mid after now t);
+      same = λ q. true-not-false q;
+      settled = λ q. true-not-false q;
+    }
+    one-more i ws mid after false now s t = record {
+      grown = grown-more (s .grown) (t .grown);
+      raised = λ q. omega (arith, t .raised q, ap sum (s .same refl));
+      same = λ q. t .same q ∙ s .same refl;
+      settled = λ q. below-more (λ (k : ℕ). P k after) i (subst (Below P i) (sym (t .same q)) (s .settled refl)) (t .settled q);
+    }
 
   -- Sweeps until nothing changes.
   module _ (Settled : List ℕ → Type 0) where

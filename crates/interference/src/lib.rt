@@ -6,7 +6,7 @@ use model::Refusal;
 ghost use mathlib.Core.Path.{_≡_};
 ghost use mathlib.Core.Logic.{_⊎_, _↔_};
 ghost use Prim.Native.Nat.{ℕ, _+_, _*_, _≤_, _<_};
-ghost use lib.ListN.{length, getD};
+ghost use lib.ListN.{length};
 ghost use Rattle.model.specs.Numbers.{problemOf};
 ghost use Rattle.model.specs.Graph.{edgesOf};
 ghost use Rattle.model.specs.Costs.{functionOf};
@@ -79,9 +79,7 @@ fn gain_row(l: &[u64; 1446], i: usize, table: &mut [u32]) -> bool
     let mut changed = false;
     let mut f: usize = 0;
     while f < count {
-        if gain_set(table, u, v, f, g) {
-            changed = true;
-        }
+        changed |= gain_set(table, u, v, f, g);
         f += 1;
     }
     changed
@@ -96,9 +94,7 @@ fn sweep_sets(l: &[u64; 1446], table: &mut [u32]) -> bool
     let mut changed = false;
     let mut i: usize = 0;
     while i < count {
-        if gain_row(l, i, table) {
-            changed = true;
-        }
+        changed |= gain_row(l, i, table);
         i += 1;
     }
     changed
@@ -143,9 +139,7 @@ fn sweep_fresh(l: &[u64; 1446], fresh: &mut [u32]) -> bool
     let mut changed = false;
     let mut i: usize = 0;
     while i < count {
-        if gain_fresh(l, i, fresh) {
-            changed = true;
-        }
+        changed |= gain_fresh(l, i, fresh);
         i += 1;
     }
     changed
@@ -176,10 +170,10 @@ fn copy_row(table: &[u32; 4096], v: usize, count: usize, words: &mut [u32], at: 
     requires { ⌜ (v < 128) × (count ≤ 32) ⌝ ∗ ⌜ at + count ≤ length (now words) ⌝ }
     ensures { λ _. ⌜ RowCopied (now (table .entry)) v count at (now (words .entry)) (now (words .exit)) ⌝ }
 {
-    let mut f: usize = 0;
-    while f < count {
-        words[at + f] = table[32 * v + f];
-        f += 1;
+    let mut k: usize = 0;
+    while k < count {
+        words[at + k] = table[32 * v + k];
+        k += 1;
     }
 }
 

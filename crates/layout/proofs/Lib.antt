@@ -1,2 +1,3 @@
 pub mod Sums
 pub mod Judged
+pub mod Through13

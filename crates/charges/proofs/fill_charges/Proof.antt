@@ -1,5 +1,5 @@
 -- `charges::fill_charges` keeps the visit charges of the places passed.
-use Prim.Native.Nat.{_-_, _≤_}
+use Prim.Native.Nat.{_-_}
 use native.Mathlib.Omega.{arith}
 use borrow.Author.Needs.{needs}
 use Rattle.model.specs.Numbers.{problemOf}

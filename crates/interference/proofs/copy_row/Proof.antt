@@ -9,10 +9,10 @@ use Rattle.interference.proofs.copy_row.Statement.{statement}
 use Rattle.interference.proofs.copy_row.Tie as tie
 
 abbrev Inv-loop : tie.InvT-loop
-Inv-loop table v count words₀ at f₀ words f = (f ≤ count) × RowCopied table v f at words₀ words
+Inv-loop table v count words₀ at k₀ words k = (k ≤ count) × RowCopied table v k at words₀ words
 
 abbrev μ-loop : tie.MeasureT-loop
-μ-loop table v count words₀ at f₀ words f = count - f
+μ-loop table v count words₀ at k₀ words k = count - k
 
 loop-holds : tie.Need-loop-holds Inv-loop μ-loop
 loop-holds c = (omega arith, no-word _ _ _ _)
@@ -38,14 +38,14 @@ mul-words-3 c = omega arith
 slice-write-words : tie.Need-slice-write-words Inv-loop μ-loop
 slice-write-words c = omega (arith, c .before .before .loop .inv .1 .long)
 
-add-f : tie.Need-add-f Inv-loop μ-loop
-add-f c = omega arith
+add-k : tie.Need-add-k Inv-loop μ-loop
+add-k c = omega arith
 
 loop-less : tie.Need-loop-less Inv-loop μ-loop
 loop-less c = omega arith
 
 loop-again : tie.Need-loop-again Inv-loop μ-loop
-loop-again c = (omega arith, one-word _ _ _ _ (c .before .before .loop .f) _ (omega (arith, c .before .before .loop .inv .1 .long)) (c .before .before .loop .inv .1))
+loop-again c = (omega arith, one-word _ _ _ _ (c .before .before .loop .k) _ (omega (arith, c .before .before .loop .inv .1 .long)) (c .before .before .loop .inv .1))
 
 same-length : tie.Need-same-length Inv-loop μ-loop
 same-length c = c .before .loop .inv .1 .long
@@ -67,7 +67,7 @@ copy-row-spec =
     add-words-2
     mul-words-3
     slice-write-words
-    add-f
+    add-k
     loop-less
     loop-again
     same-length

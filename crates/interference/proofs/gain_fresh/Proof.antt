@@ -1,10 +1,9 @@
 -- `gain_fresh` does the step of one edge.
-use mathlib.Core.Path.{_∙_}
 use native.Mathlib.Omega.{arith}
 use Rattle.model.specs.Numbers.{problemOf}
-use Rattle.interference.proofs.Bounds.{count-facts, start-there, start-small, end-small, start-function-small}
 use Rattle.interference.proofs.Flows.{fresh-step}
 use borrow.Author.Needs.{needs}
+use Rattle.interference.proofs.Bounds.{count-facts, ends-there, ends-small, function-small}
 use Rattle.interference.proofs.gain_fresh.Statement.{statement}
 use Rattle.interference.proofs.gain_fresh.Tie as tie
 
@@ -15,19 +14,19 @@ edge-to-requires : tie.Need-edge-to-requires
 edge-to-requires c κs = (count-facts _ (c .before .before .pre .0), c .before .before .pre .1 .0)
 
 mul-without : tie.Need-mul-without
-mul-without c = omega (arith, start-small _ (c .before .before .before .pre .0) _ (c .before .before .before .pre .1 .0) _ (c .before .edge-from .ensures))
+mul-without c = omega (arith, ends-small _ (c .before .before .before .pre .0) _ (c .before .before .before .pre .1 .0) _ _ (c .before .edge-from .ensures) (c .edge-to .ensures))
 
 slice-read-without : tie.Need-slice-read-without
-slice-read-without c = omega (arith, start-small _ (c .before .before .before .before .pre .0) _ (c .before .before .before .before .pre .1 .0) _ (c .before .before .edge-from .ensures))
+slice-read-without c = omega (arith, ends-small _ (c .before .before .before .before .pre .0) _ (c .before .before .before .before .pre .1 .0) _ _ (c .before .before .edge-from .ensures) (c .before .edge-to .ensures))
 
 function-of-requires : tie.Need-function-of-requires
-function-of-requires c κs = (c .before .before .before .before .pre .0, start-there _ (c .before .before .before .before .pre .0) _ (c .before .before .before .before .pre .1 .0) _ (c .before .before .edge-from .ensures))
+function-of-requires c κs = (c .before .before .before .before .pre .0, omega (arith, ends-there _ (c .before .before .before .before .pre .0) _ (c .before .before .before .before .pre .1 .0) _ _ (c .before .before .edge-from .ensures) (c .before .edge-to .ensures)))
 
 without-requires : tie.Need-without-requires
-without-requires c κs = start-function-small _ (c .before .before .before .before .before .pre .0) _ (c .before .before .before .before .before .pre .1 .0) _ _ (c .before .before .before .edge-from .ensures) (c .function-of .ensures)
+without-requires c κs = function-small _ (c .before .before .before .before .before .pre .0) _ (c .before .before .before .before .before .pre .1 .0) _ _ (c .before .before .before .edge-from .ensures) (c .before .before .edge-to .ensures) _ (c .function-of .ensures)
 
 gain-requires : tie.Need-gain-requires
-gain-requires c κs = omega (arith, end-small _ (c .before .before .before .before .before .before .before .pre .0) _ (c .before .before .before .before .before .before .before .pre .1 .0) _ (c .before .before .before .before .edge-to .ensures))
+gain-requires c κs = omega (arith, ends-small _ (c .before .before .before .before .before .before .before .pre .0) _ (c .before .before .before .before .before .before .before .pre .1 .0) _ _ (c .before .before .before .before .before .edge-from .ensures) (c .before .before .before .before .edge-to .ensures))
 
 same-length : tie.Need-same-length
 same-length c = search needs

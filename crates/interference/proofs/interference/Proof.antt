@@ -30,16 +30,16 @@ function-count-requires : tie.Need-function-count-requires
 function-count-requires c κs = search needs
 
 mul-need : tie.Need-mul-need
-mul-need c = omega (arith, product-small _ _ (c .before .before .before .before .before .before .before .before .before .before .args .words .now) (c .before .before .before .before .before .before .before .before .numbers-of .ensures) _ (c .before .before .before .before .before .before .check .ensures) _ (c .before .before .before .before .enum-told .given .1) _ _ (c .before .before .vertex-count .ensures) (c .function-count .ensures))
+mul-need c = omega (arith, product-small _ _ (c .before .before .before .before .before .before .check .ensures) _ (c .before .before .before .before .enum-told .given .1) _ _ (c .before .before .vertex-count .ensures) (c .function-count .ensures))
 
 returns-2 : tie.Need-returns-2
 returns-2 c = too-few _ _ _ (c .before .before .before .before .before .before .before .before .before .numbers-of .ensures) _ (c .before .before .before .before .before .before .before .check .ensures) _ (c .before .before .before .before .before .enum-told .given .1) _ _ (c .before .before .before .vertex-count .ensures) (c .before .function-count .ensures) (c .if1 .taken)
 
 sets-requires : tie.Need-sets-requires
-sets-requires c κs = checked _ _ (c .before .before .before .before .before .before .before .before .before .before .before .before .before .args .words .now) (c .before .before .before .before .before .before .before .before .before .before .before .numbers-of .ensures) _ (c .before .before .before .before .before .before .before .before .before .check .ensures) _ (c .before .before .before .before .before .before .before .enum-told .given .1)
+sets-requires c κs = checked _ _ (c .before .before .before .before .before .before .before .before .before .check .ensures) _ (c .before .before .before .before .before .before .before .enum-told .given .1)
 
 copy-out-requires : tie.Need-copy-out-requires
-copy-out-requires c κs = (counts-small _ _ (c .before .before .before .before .before .before .before .before .before .before .before .before .before .before .before .before .args .words .now) (c .before .before .before .before .before .before .before .before .before .before .before .before .before .before .numbers-of .ensures) _ (c .before .before .before .before .before .before .before .before .before .before .before .before .check .ensures) _ (c .before .before .before .before .before .before .before .before .before .before .enum-told .given .1) _ _ (c .before .before .before .before .before .before .before .before .vertex-count .ensures) (c .before .before .before .before .before .before .function-count .ensures), c .before .before .before .before .before .if1 .left)
+copy-out-requires c κs = (counts-small _ _ (c .before .before .before .before .before .before .before .before .before .before .before .before .check .ensures) _ (c .before .before .before .before .before .before .before .before .before .before .enum-told .given .1) _ _ (c .before .before .before .before .before .before .before .before .vertex-count .ensures) (c .before .before .before .before .before .before .function-count .ensures), c .before .before .before .before .before .if1 .left)
 
 same-length : tie.Need-same-length
 same-length c = search needs

@@ -1,0 +1,48 @@
+// Run: a walk, judged and simulated from an empty scratchpad.
+use layout::LayoutAnswer;
+use model::Fields;
+use model::Problem;
+use model::Refusal;
+use model::RunAnswer;
+use model::RunVerdict;
+use model::Verdict;
+ghost use mathlib.Core.Path.{_≡_};
+ghost use Rattle.model.specs.Results.{runWalk};
+ghost use Rattle.run.specs.Steps.{notRun};
+
+fn not_run(refusal: Refusal) -> RunAnswer
+    ensures { λ r. ⌜ r ≡ notRun refusal ⌝ }
+{
+    RunAnswer {
+        verdict: RunVerdict::Refused(refusal),
+        held: [0; 32],
+    }
+}
+
+// **Run.** Cycles, loads and the function held in each region, or the first refusal that applies.
+pub fn run(problem: Problem, layout: &[u8], walk: &[u32]) -> RunAnswer
+    ensures { λ r. ⌜ r ≡ runWalk problem (now (layout .entry)) (now (walk .entry)) ⌝ }
+{
+    let numbers = numbers::numbers_of(problem);
+    let checked = file::check(&numbers);
+    let Fields::Done(_) = checked else {
+        return not_run(file::refusal_in(checked));
+    };
+    let judged = layout::judge(&numbers, layout);
+    let LayoutAnswer::Fits(_) = judged else {
+        return not_run(layout::refusal_in(judged));
+    };
+    if 1_000_000 < walk.len() {
+        return not_run(Refusal::LongWalk(1_000_000));
+    }
+    let verdict = walk::judge(&numbers, walk);
+    let Verdict::Accepted = verdict else {
+        return not_run(model::refusal_in(verdict));
+    };
+    let mut held = [0u8; 32];
+    let run = walk::simulate(&numbers, layout, walk, &mut held);
+    RunAnswer {
+        verdict: RunVerdict::Ran(run),
+        held: held,
+    }
+}

@@ -1,0 +1,63 @@
+-- `walk::header_table` enters every loop at its header. The loop's invariant: the first i loops are entered.
+use Prim.Native.Nat.{_-_, _≤_, _<_}
+use native.Mathlib.Omega.{arith}
+use lib.ListN.{length}
+use borrow.Author.Needs.{needs}
+use Rattle.model.specs.Numbers.{problemOf}
+use Rattle.model.specs.Graph.{loopsOf}
+use Rattle.walk.proofs.Places.{counted}
+use Rattle.walk.proofs.Headers.{Entered, none-entered, header-inside, loop-entered, all-entered}
+use Rattle.walk.proofs.header_table.Statement.{statement}
+use Rattle.walk.proofs.header_table.Tie as tie
+
+abbrev Inv-loop : tie.InvT-loop
+Inv-loop l table₀ count i₀ table i = (i ≤ length (loopsOf (problemOf l))) × Entered (problemOf l) i table
+
+abbrev μ-loop : tie.MeasureT-loop
+μ-loop l table₀ count i₀ table i = count - i
+
+loop-count-requires : tie.Need-loop-count-requires Inv-loop μ-loop
+loop-count-requires c κs = counted _ (c .pre)
+
+loop-holds : tie.Need-loop-holds Inv-loop μ-loop
+loop-holds c = (search needs, none-entered _)
+
+loop-header-requires : tie.Need-loop-header-requires Inv-loop μ-loop
+loop-header-requires c κs = (counted _ (c .before .before .before .pre), search needs)
+
+inside : (c : tie.After-loop-header Inv-loop μ-loop) → c .loop-header .result < 128
+inside c = header-inside _ (c .before .before .before .before .pre) (c .before .before .loop .i) _ (omega arith) (c .loop-header .ensures)
+
+mul-table : tie.Need-mul-table Inv-loop μ-loop
+mul-table c = omega (arith, inside c)
+
+array-write-table : tie.Need-array-write-table Inv-loop μ-loop
+array-write-table c = inside c
+
+add-i : tie.Need-add-i Inv-loop μ-loop
+add-i c = search needs
+
+loop-less : tie.Need-loop-less Inv-loop μ-loop
+loop-less c = search needs
+
+loop-again : tie.Need-loop-again Inv-loop μ-loop
+loop-again c = (search needs, loop-entered _ (c .before .before .before .before .pre) _ _ (omega arith) (c .loop-header .ensures) _ (c .before .before .loop .inv .1))
+
+returns : tie.Need-returns Inv-loop μ-loop
+returns c = all-entered _ _ _ (c .before .loop .inv .0) (omega arith) (c .before .loop .inv .1)
+
+pub header-table-spec : {M : Type 1} → statement M
+header-table-spec =
+    tie.close
+    (tie.spec
+    Inv-loop
+    μ-loop
+    loop-count-requires
+    loop-holds
+    loop-header-requires
+    mul-table
+    array-write-table
+    add-i
+    loop-less
+    loop-again
+    returns)

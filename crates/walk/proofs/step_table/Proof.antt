@@ -1,0 +1,79 @@
+-- `walk::step_table` marks the start and every edge. The loop's invariant: the first i edges are marked.
+use Prim.Native.Nat.{_+_, _-_, _*_, _≤_, _<_}
+use native.Mathlib.Omega.{arith}
+use lib.ListN.{length}
+use borrow.Author.Needs.{needs}
+use Rattle.model.specs.Numbers.{problemOf}
+use Rattle.model.specs.Graph.{edgesOf}
+use Rattle.walk.proofs.Places.{counted}
+use Rattle.walk.proofs.Steps.{Marked, start-marked, from-inside, mark-inside, edge-marked, all-marked}
+use Rattle.walk.proofs.step_table.Statement.{statement}
+use Rattle.walk.proofs.step_table.Tie as tie
+
+abbrev Inv-loop : tie.InvT-loop
+Inv-loop l table₀ count i₀ table i = (i ≤ length (edgesOf (problemOf l))) × Marked (problemOf l) i table
+
+abbrev μ-loop : tie.MeasureT-loop
+μ-loop l table₀ count i₀ table i = count - i
+
+array-write-table : tie.Need-array-write-table Inv-loop μ-loop
+array-write-table c = search needs
+
+edge-count-requires : tie.Need-edge-count-requires Inv-loop μ-loop
+edge-count-requires c κs = counted _ (c .pre)
+
+loop-holds : tie.Need-loop-holds Inv-loop μ-loop
+loop-holds c = (search needs, start-marked _)
+
+edge-from-requires : tie.Need-edge-from-requires Inv-loop μ-loop
+edge-from-requires c κs = (counted _ (c .before .before .before .pre), search needs)
+
+mul-place : tie.Need-mul-place Inv-loop μ-loop
+mul-place c =
+    omega (arith, c .edge-from .ensures, from-inside _ (c .before .before .before .before .pre) (c .before .before .loop .i) (omega arith))
+
+edge-to-requires : tie.Need-edge-to-requires Inv-loop μ-loop
+edge-to-requires c κs = (counted _ (c .before .before .before .before .pre), search needs)
+
+inside : (c : tie.After-edge-to Inv-loop μ-loop) → 128 * c .before .edge-from .result + c .edge-to .result < 16384
+inside c =
+    mark-inside _ (c .before .before .before .before .before .pre) (c .before .before .before .loop .i) _ _ (omega arith) (c .before .edge-from .ensures) (c .edge-to .ensures)
+
+add-place : tie.Need-add-place Inv-loop μ-loop
+add-place c = omega (arith, inside c)
+
+array-write-table-2 : tie.Need-array-write-table-2 Inv-loop μ-loop
+array-write-table-2 c = omega (arith, inside c)
+
+add-i : tie.Need-add-i Inv-loop μ-loop
+add-i c = search needs
+
+loop-less : tie.Need-loop-less Inv-loop μ-loop
+loop-less c = search needs
+
+loop-again : tie.Need-loop-again Inv-loop μ-loop
+loop-again c =
+    (search needs, edge-marked _ (c .before .before .before .before .before .pre) (c .before .before .before .loop .i) _ _ (omega arith) (c .before .edge-from .ensures) (c .edge-to .ensures) _ (c .before .before .before .loop .inv .1))
+
+returns : tie.Need-returns Inv-loop μ-loop
+returns c =
+    all-marked _ (c .before .before .before .pre) _ _ (c .before .loop .inv .0) (omega arith) (c .before .loop .inv .1)
+
+pub step-table-spec : {M : Type 1} → statement M
+step-table-spec =
+    tie.close
+    (tie.spec
+    Inv-loop
+    μ-loop
+    array-write-table
+    edge-count-requires
+    loop-holds
+    edge-from-requires
+    mul-place
+    edge-to-requires
+    add-place
+    array-write-table-2
+    add-i
+    loop-less
+    loop-again
+    returns)
