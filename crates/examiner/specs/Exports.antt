@@ -1,10 +1,13 @@
 -- What each export gives back, and what `out` holds afterwards.
 use Prim.Native.Nat.{ℕ}
+use mathlib.Core.Path.{_≡_}
 use mathlib.Core.List.{List, _∷_}
 use Rattle.model.specs.declared.Problem.{Problem}
 use Rattle.model.specs.Numbers.{problemOf}
 use Rattle.model.specs.Operations.{readFile, writeProblem, writtenBuffer}
-use Rattle.examiner.specs.Outcomes.{Outcome, Results, Refusing, counts, onRead, onWritten}
+use Rattle.model.specs.declared.InterferenceAnswer.{InterferenceAnswer}
+use Rattle.model.specs.Results.{InterferenceSays}
+use Rattle.examiner.specs.Outcomes.{Outcome, Results, Refusing, counts, onRead, onWritten, onFilled, ByRead}
 
 -- **examiner_read**
 abbrev pub readOutcome : List ℕ → Outcome
@@ -23,3 +26,10 @@ fieldsProblem fields = problemOf (1 ∷ fields)
 
 abbrev pub fieldsOutcome : List ℕ → ℕ → Outcome
 fieldsOutcome fields room = onWritten (writeProblem (fieldsProblem fields) room)
+
+-- **examiner_interference**, where `words` hold `after` at the end: what Interference says of the problem; on Read's refusal the words are as they were.
+abbrev pub FillsWords : Problem → List ℕ → List ℕ → Outcome → Type 0
+FillsWords p words after o = (r : InterferenceAnswer) × InterferenceSays p words after r × (o ≡ onFilled r)
+
+abbrev pub InterferenceOutcome : List ℕ → List ℕ → List ℕ → Outcome → Type 0
+InterferenceOutcome file words after o = ByRead (readFile file) (λ p. FillsWords p words after o) (λ f. (o ≡ Refusing f) × (after ≡ words))

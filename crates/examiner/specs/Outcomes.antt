@@ -1,5 +1,6 @@
 -- What an export gives back, and how its caller is told.
 use Prim.Native.Nat.{ℕ}
+use mathlib.Core.Path.{_≡_}
 use mathlib.Core.List.{List, [], _∷_}
 use lib.Seq.{sets}
 use Rattle.model.specs.declared.Refusal.{Refusal}
@@ -9,6 +10,8 @@ use Rattle.model.specs.declared.Problem.{Problem}
 use Rattle.model.specs.declared.ReadAnswer.{ReadAnswer}
 use Rattle.model.specs.declared.WriteAnswer.{WriteAnswer}
 use Rattle.model.specs.declared.WriteAnswer.the-variants as write
+use Rattle.model.specs.declared.InterferenceAnswer.{InterferenceAnswer}
+use Rattle.model.specs.declared.InterferenceAnswer.the-variants as interference
 use Rattle.model.specs.Refusals.{number, place}
 
 -- A result's numbers, or a refusal.
@@ -42,3 +45,23 @@ counts p = p .«function_count» ∷ p .«vertex_count» ∷ p .«edge_count» �
 abbrev pub onWritten : WriteAnswer → Outcome
 onWritten (write.Written n) = Results (n ∷ [])
 onWritten (write.Refused f) = Refusing f
+
+-- Interference's number: the words filled.
+abbrev pub onFilled : InterferenceAnswer → Outcome
+onFilled (interference.Filled n) = Results (n ∷ [])
+onFilled (interference.Refused f) = Refusing f
+
+-- Where the definitions say which outcomes are right, and not by an equation: an outcome that is right, told to the caller.
+pub record Right (Says : Outcome → Type 0) (before after : List ℕ) (returned : ℕ) : Type 0 where
+  pub outcome : Outcome
+  pub says : Says outcome
+  pub status-is : returned ≡ status outcome
+  pub answer-is : after ≡ answerAfter outcome before
+
+-- What is right goes by Read's answer too.
+abbrev pub ByVerdict : Verdict → Problem → (Problem → Type 0) → (Refusal → Type 0) → Type 0
+ByVerdict verdict.Accepted p Good Refused = Good p
+ByVerdict (verdict.Refused f) p Good Refused = Refused f
+
+abbrev pub ByRead : ReadAnswer → (Problem → Type 0) → (Refusal → Type 0) → Type 0
+ByRead r Good Refused = ByVerdict (r .verdict) (r .problem) Good Refused

@@ -1,4 +1,5 @@
 // The library for C and Rust callers: an operation an export. Each answers 0, or the refusal's number with its place in answer[0].
+use model::InterferenceAnswer;
 use model::Problem;
 use model::Refusal;
 use model::Verdict;
@@ -7,8 +8,8 @@ ghost use mathlib.Core.Path.{_≡_};
 ghost use mathlib.Core.List.{_∷_};
 ghost use lib.ListN.{length};
 ghost use Rattle.model.specs.Operations.{writtenBuffer};
-ghost use Rattle.examiner.specs.Outcomes.{Results, Refusing, status, answerAfter, counts, onWritten};
-ghost use Rattle.examiner.specs.Exports.{readOutcome, writeOutcome, writeOut, fieldsProblem, fieldsOutcome};
+ghost use Rattle.examiner.specs.Outcomes.{Results, Refusing, status, answerAfter, counts, onWritten, onFilled, Right};
+ghost use Rattle.examiner.specs.Exports.{readOutcome, writeOutcome, writeOut, fieldsProblem, fieldsOutcome, InterferenceOutcome};
 
 // Tells a refusal.
 fn refuse(refusal: Refusal, answer: &mut [u64; 4]) -> u32
@@ -99,4 +100,34 @@ pub extern "C" fn examiner_write_fields(
     let numbers = with_edition(*fields);
     let problem = numbers::problem_of(&numbers);
     tell_written(file::write(problem, out), answer)
+}
+
+// Tells what Interference gave.
+fn tell_filled(filled: InterferenceAnswer, answer: &mut [u64; 4]) -> u32
+    ensures { λ r. ⌜ r ≡ status (onFilled filled) ⌝ ∗ ⌜ now (answer .exit) ≡ answerAfter (onFilled filled) (now (answer .entry)) ⌝ }
+{
+    match filled {
+        InterferenceAnswer::Refused(refusal) => refuse(refusal, answer),
+        InterferenceAnswer::Filled(count) => {
+            answer[0] = count as u64;
+            0
+        }
+    }
+}
+
+// **Interference** of the problem that the file holds: the words filled.
+#[no_mangle]
+pub extern "C" fn examiner_interference(
+    file: &[u8],
+    words: &mut [u32],
+    answer: &mut [u64; 4],
+) -> u32
+    ensures { λ r. ⌜ Right (InterferenceOutcome (now (file .entry)) (now (words .entry)) (now (words .exit))) (now (answer .entry)) (now (answer .exit)) r ⌝ }
+{
+    let read = file::read(file);
+    let verdict = read.verdict;
+    let Verdict::Accepted = verdict else {
+        return refuse(model::refusal_in(verdict), answer);
+    };
+    tell_filled(interference::interference(read.problem, words), answer)
 }

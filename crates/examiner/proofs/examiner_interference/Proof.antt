@@ -1,0 +1,72 @@
+-- `examiner_interference` meets its contract: Read's refusal stands, or Interference's answer on the problem is told.
+use mathlib.Core.Path.{_≡_, refl}
+use Rattle.model.specs.declared.Problem.{Problem}
+use Rattle.model.specs.declared.Refusal.{Refusal}
+use Rattle.examiner.specs.Outcomes.{Refusing, onFilled}
+use Rattle.examiner.specs.Exports.{FillsWords}
+use Rattle.examiner.proofs.Told.{right-refused, right-on}
+use borrow.Author.Needs.{needs}
+use Rattle.examiner.proofs.examiner_interference.Statement.{statement}
+use Rattle.examiner.proofs.examiner_interference.Tie as tie
+
+read-requires : tie.Need-read-requires
+read-requires c κs = search needs
+
+enum-told : tie.Need-enum-told
+enum-told c = search needs
+
+enum-told-2 : tie.Need-enum-told-2
+enum-told-2 c = search needs
+
+refusal-in-requires : tie.Need-refusal-in-requires
+refusal-in-requires c κs = search needs
+
+refuse-requires : tie.Need-refuse-requires
+refuse-requires c κs = search needs
+
+returns : tie.Need-returns
+returns c =
+    let words = c .before .before .before .before .before .before .before .before .args .words .now in
+    let o = Refusing (c .before .before .refusal-in .result) in
+    record {
+      outcome = o;
+      says = right-refused (λ p. FillsWords p words words o) (λ f. (o ≡ Refusing f) × (words ≡ words)) _ _ (c .before .before .before .before .before .read .ensures) _ _ (c .before .before .before .enum-told2 .given .1) (c .before .before .refusal-in .ensures) (refl, refl);
+      status-is = c .refuse .ensures .0;
+      answer-is = c .refuse .ensures .1;
+    }
+
+interference-requires : tie.Need-interference-requires
+interference-requires c κs = search needs
+
+tell-filled-requires : tie.Need-tell-filled-requires
+tell-filled-requires c κs = search needs
+
+same-length : tie.Need-same-length
+same-length c = search needs
+
+returns-2 : tie.Need-returns-2
+returns-2 c =
+    let words = c .before .before .before .before .before .before .before .before .before .before .before .args .words .now in
+    let after = c .before .before .before .before .interference .last .1 .0 in
+    let o = onFilled (c .before .before .before .before .interference .result) in
+    record {
+      outcome = o;
+      says = right-on (λ p. FillsWords p words after o) (λ f. (o ≡ Refusing f) × (after ≡ words)) _ _ (c .before .before .before .before .before .before .before .before .read .ensures) (c .before .before .before .before .before .before .enum-told .given .1) (c .before .before .before .before .interference .result, c .before .before .before .before .interference .ensures, refl);
+      status-is = c .tell-filled .ensures .0;
+      answer-is = c .tell-filled .ensures .1;
+    }
+
+pub examiner-interference-spec : {M : Type 1} → statement M
+examiner-interference-spec =
+    tie.close
+    (tie.spec
+    read-requires
+    enum-told
+    enum-told-2
+    refusal-in-requires
+    refuse-requires
+    returns
+    interference-requires
+    tell-filled-requires
+    same-length
+    returns-2)
