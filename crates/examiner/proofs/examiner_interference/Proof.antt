@@ -1,7 +1,5 @@
 -- `examiner_interference` meets its contract: Read's refusal stands, or Interference's answer on the problem is told.
 use mathlib.Core.Path.{_≡_, refl}
-use Rattle.model.specs.declared.Problem.{Problem}
-use Rattle.model.specs.declared.Refusal.{Refusal}
 use Rattle.examiner.specs.Outcomes.{Refusing, onFilled}
 use Rattle.examiner.specs.Exports.{FillsWords}
 use Rattle.examiner.proofs.Told.{right-refused, right-on}

@@ -1,0 +1,59 @@
+// Bound: the largest sum of visit charges over all lawful walks, plus the first loads.
+use layout::LayoutAnswer;
+use model::Bound;
+use model::BoundAnswer;
+use model::Bytes;
+use model::Fields;
+use model::Problem;
+use model::Refusal;
+ghost use mathlib.Core.Path.{_≡_};
+ghost use Rattle.model.specs.Numbers.{problemOf};
+ghost use Rattle.model.specs.Layouts.{needOf};
+ghost use Rattle.model.specs.Operations.{Checked};
+ghost use Rattle.model.specs.Results.{BoundSays};
+ghost use Rattle.bound.specs.Priced.{Priced};
+
+const LIMIT: u64 = 1_000_000_000_000_000_000;
+
+// What a layout that fits costs: the part of Bound after the checks, on sets that are computed once.
+pub fn price(l: &[u64; 1446], layout: &[u8], need: Bytes) -> BoundAnswer
+    requires { ⌜ Checked (now l) ⌝ ∗ ⌜ need .0 ≡ needOf (problemOf (now l)) (now layout) ⌝ }
+    ensures { λ r. ⌜ Priced (problemOf (now (l .entry))) (now (layout .entry)) r ⌝ }
+{
+    let mut sets = [0u32; 4096];
+    interference::sets(l, &mut sets);
+    let mut fresh = [0u32; 128];
+    interference::first_reach(l, &mut fresh);
+    let mut flags = [0u8; 128];
+    let contested = charges::mark_contested(l, layout, &sets, &mut flags);
+    let mut charge = [0u64; 128];
+    charges::fill_charges(l, &flags, &mut charge);
+    let first = charges::first_loads(l, &flags, &fresh);
+    let greatest = longest::greatest_charges(l, &charge);
+    let bound = charges::sum(greatest, first);
+    if LIMIT < bound.0 {
+        return BoundAnswer::Refused(Refusal::PastLimit(0));
+    }
+    BoundAnswer::Bounded(Bound {
+        need: need,
+        contested: contested,
+        first: first,
+        bound: bound,
+    })
+}
+
+// **Bound.** Bytes needed, contested vertices, first loads and the bound, or the first refusal that applies.
+pub fn bound(problem: Problem, layout: &[u8]) -> BoundAnswer
+    ensures { λ r. ⌜ BoundSays problem (now (layout .entry)) r ⌝ }
+{
+    let numbers = numbers::numbers_of(problem);
+    let checked = file::check(&numbers);
+    let Fields::Done(_) = checked else {
+        return BoundAnswer::Refused(file::refusal_in(checked));
+    };
+    let judged = layout::judge(&numbers, layout);
+    let LayoutAnswer::Fits(need) = judged else {
+        return BoundAnswer::Refused(layout::refusal_in(judged));
+    };
+    price(&numbers, layout, need)
+}

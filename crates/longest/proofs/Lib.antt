@@ -1,0 +1,11 @@
+pub mod Checks
+pub mod Headers
+pub mod Leaving
+pub mod Offers
+pub mod ThreeNumbers
+pub mod Growth
+pub mod Stores
+pub mod Parts
+pub mod Progress
+pub mod Whole
+pub mod Same

@@ -1,0 +1,72 @@
+-- All vertices: tables of zeros to begin with, and what stands at the last vertex in the end.
+use Prim.Native.Nat.{ℕ, zero, suc, _-_, _≤_}
+use mathlib.Core.Path.{_≡_, refl}
+use mathlib.Core.List.{List}
+use mathlib.Core.Logic.{inl, inr}
+use native.Mathlib.Omega.{arith}
+use lib.ListN.{getD, replicate}
+use Rattle.model.specs.declared.Loop.{Loop}
+use Rattle.model.specs.Numbers.{problemOf}
+use Rattle.model.specs.Walks.{lastVertex}
+use Rattle.model.specs.Operations.{Checked}
+use Rattle.graph.specs.Counts.{verticesIn, edgesIn, loopsIn}
+use Rattle.greatest.specs.Numbers.{starts, ends, Filled}
+use Rattle.greatest.proofs.Graph.{linked}
+use Rattle.greatest.proofs.Filling.{complete}
+use Rattle.greatest.proofs.Exact.{below-cap, at-cap}
+use Rattle.greatest.proofs.Checked.{checked-graph, checked-ranges}
+use Rattle.longest.specs.Tables.{cap, Capped, edgeCount, byVertex, byHeader}
+use Rattle.longest.specs.Filling.{Filling, Since}
+use Rattle.longest.specs.Longest.{Longest}
+
+capped-zeros : (n : ℕ) (k : ℕ) → getD (replicate n 0) k 0 ≤ cap
+capped-zeros zero k = omega arith
+capped-zeros (suc n) zero = omega arith
+capped-zeros (suc n) (suc k) = capped-zeros n k
+
+zeros : Capped (replicate 128 0)
+zeros = record { most = capped-zeros 128 }
+
+none : (k : Loop) → Since 0 0 k → ⊥
+none k (inl s) = omega arith
+none k (inr s) = omega arith
+
+module _ {l charge : List ℕ} where
+  pub nothing-filled : Checked l → Capped charge → Filling l charge (replicate 128 0) (replicate 128 0) (replicate 128 0) 0 (Since 0 0)
+  nothing-filled ok charges =
+      record {
+        ready = record { checked = ok; visits = zeros; entries = zeros; turns = zeros };
+        charges = charges;
+        visits-long = refl;
+        entries-long = refl;
+        turns-long = refl;
+        upto = record {
+          first = λ s. absurd (omega arith);
+          head = λ v k i q s. absurd (omega arith);
+          inner = λ v s. absurd (omega arith);
+          begin = λ k i q s. absurd (omega arith);
+          entry = λ v k i q z s. absurd (omega arith);
+          again = λ v k i q s. absurd (none k s);
+        };
+      }
+
+  module _ {d e t : List ℕ} (f : Filling l charge d e t (verticesIn l) (Since 0 (verticesIn l))) where
+    all-filled : Filled (starts (edgesIn l)) (ends (edgesIn l)) (edgeCount l) (loopsIn l) (byVertex charge) (λ k. 0) (byVertex d) (byHeader e) (byHeader t) cap (verticesIn l)
+    all-filled =
+        let ok = f .ready .checked in
+        complete (linked (checked-graph l ok) (checked-ranges l ok)) (checked-ranges l ok .some-vertex)
+        (λ k i. inr (omega arith, checked-ranges l ok .last k i)) (f .upto)
+
+    at-last : Longest (problemOf l) (byVertex charge) (getD d (lastVertex (problemOf l)) 0)
+    unfolding byVertex
+    at-last =
+        let ok = f .ready .checked in
+        record {
+          below = below-cap (problemOf l) (checked-graph l ok) (checked-ranges l ok) all-filled;
+          at = at-cap (problemOf l) (checked-graph l ok) (checked-ranges l ok) all-filled;
+          most = f .ready .visits .most _;
+        }
+
+  -- The same, the vertices counted by a number.
+  pub longest-at-last : {d e t : List ℕ} {n : ℕ} → n ≡ verticesIn l → Filling l charge d e t n (Since 0 n) → Longest (problemOf l) (byVertex charge) (getD d (n - 1) 0)
+  longest-at-last is f = rw is (at-last (rw is at f))

@@ -1,0 +1,51 @@
+-- The tables while they are filled: which equations of `greatest` hold so far.
+use Prim.Native.Nat.{ℕ, _+_, _≤_, _<_}
+use mathlib.Core.Path.{_≡_}
+use mathlib.Core.List.{List, List·Memᴰ}
+use mathlib.Core.Logic.{_⊎_}
+use lib.ListN.{length}
+use Rattle.model.specs.declared.Loop.{Loop}
+use Rattle.model.specs.Graph.{loop}
+use Rattle.graph.specs.Counts.{verticesIn, edgesIn, loopsIn}
+use Rattle.greatest.specs.Numbers.{starts, ends, NoHeader, Upto}
+use Rattle.longest.specs.Tables.{cap, Capped, Ready, edgeCount, byVertex, byHeader}
+
+-- The equations of the vertices below x, and of the iterations of the loops that are done.
+pub record Filling (l charge d e t : List ℕ) (x : ℕ) (done : Loop → Type 0) : Type 0 where
+  pub ready : Ready l d e t
+  pub charges : Capped charge
+  pub visits-long : length d ≡ 128
+  pub entries-long : length e ≡ 128
+  pub turns-long : length t ≡ 128
+  pub upto : Upto (starts (edgesIn l)) (ends (edgesIn l)) (edgeCount l) (loopsIn l) (byVertex charge) (λ k. 0) (byVertex d) (byHeader e) (byHeader t) cap x done
+
+-- Which loops are done: before vertex x, where no loop ends at x;
+abbrev pub Before : ℕ → Loop → Type 0
+Before x k = k .last < x
+
+-- in a part of the vertices from `first` on, filled up to x: a loop around the part, which may end with it, is not done;
+abbrev pub Since : ℕ → ℕ → Loop → Type 0
+Since first x k = (k .last + 1 < first) ⊎ ((first ≤ k .header) × (k .last < x))
+
+-- after the loop from header to last.
+abbrev pub After : ℕ → ℕ → Loop → Type 0
+After header last k = (k .last < header) ⊎ ((header ≤ k .header) × (k .last ≤ last))
+
+-- The vertices from `first` to `to`, the latter not counted: a loop is behind them, around them, or whole among them.
+pub record Part (l : List ℕ) (first to : ℕ) : Type 0 where
+  pub order : first ≤ to
+  pub end : to ≤ verticesIn l
+  pub around : (k : Loop) → List·Memᴰ k (loopsIn l) → k .header < first → (k .last + 1 < first) ⊎ (to ≤ k .last + 1)
+  pub whole : (k : Loop) → List·Memᴰ k (loopsIn l) → first ≤ k .header → k .header < to → k .last < to
+
+-- A part filled up to v, with the loops that begin below v.
+pub record Partly (l charge d e t : List ℕ) (first to v : ℕ) : Type 0 where
+  pub low : first ≤ v
+  pub high : v ≤ to
+  pub whole : (k : Loop) → List·Memᴰ k (loopsIn l) → first ≤ k .header → k .header < v → k .last < v
+  pub filling : Filling l charge d e t v (Since first v)
+
+-- r is the index of the loop that begins at v, or the number of loops.
+pub record BeginsAt (ls : List Loop) (v r : ℕ) : Type 0 where
+  pub found : r < length ls → loop ls r .header ≡ v
+  pub none : length ls ≤ r → NoHeader ls v

@@ -1,0 +1,282 @@
+// The longest lawful walk: the greatest sum of charges, found a vertex and a loop at a time, exact up to the bound's limit.
+use model::Cycles;
+ghost use mathlib.Core.Path.{_≡_};
+ghost use Prim.Native.Nat.{ℕ, _+_, _*_, _-_, _≤_, _<_, min, max};
+ghost use lib.ListN.{length};
+ghost use Rattle.model.specs.Numbers.{problemOf};
+ghost use Rattle.model.specs.Graph.{loop};
+ghost use Rattle.model.specs.Operations.{Checked};
+ghost use Rattle.graph.specs.Counts.{loopsIn};
+ghost use Rattle.greatest.specs.Numbers.{left};
+ghost use Rattle.longest.specs.Tables.{cap, Capped, Ready, edgeCount, byVertex, byHeader, leaving, comes, offered, bestInto};
+ghost use Rattle.longest.specs.Tables.{visitNumber, entryNumber, turnNumber};
+ghost use Rattle.longest.specs.Filling.{Filling, Before, Since, After, Part, BeginsAt};
+ghost use Rattle.longest.specs.Longest.{Longest};
+
+// One more than the bound's limit.
+const CAP: u64 = 1_000_000_000_000_000_001;
+
+// Which edges to a vertex count: all, those from outside a range, or those from inside. The numbers are the range's header and last vertex.
+pub enum Origin {
+    Anywhere,
+    Outside(usize, usize),
+    Inside(usize, usize),
+}
+
+fn capped_sum(a: Cycles, b: Cycles) -> Cycles
+    requires { ⌜ a .0 ≤ cap ⌝ ∗ ⌜ b .0 ≤ cap ⌝ }
+    ensures { λ r. ⌜ r .0 ≡ min cap (a .0 + b .0) ⌝ }
+{
+    let sum = a.0 + b.0;
+    if sum < CAP { Cycles(sum) } else { Cycles(CAP) }
+}
+
+fn capped_product(times: u64, a: Cycles) -> Cycles
+    ensures { λ r. ⌜ r .0 ≡ min cap (times * a .0) ⌝ }
+{
+    if times == 0 {
+        return Cycles(0);
+    }
+    if CAP / times < a.0 {
+        return Cycles(CAP);
+    }
+    Cycles(times * a.0)
+}
+
+fn larger(a: Cycles, b: Cycles) -> Cycles
+    ensures { λ r. ⌜ r .0 ≡ max (a .0) (b .0) ⌝ }
+{
+    if a.0 < b.0 { b } else { a }
+}
+
+fn loop_bound(l: &[u64; 1446], i: usize) -> u64
+    requires { ⌜ Checked (now l) ⌝ ∗ ⌜ i < length (loopsIn (now l)) ⌝ }
+    ensures { λ r. ⌜ r ≡ loop (loopsIn (now (l .entry))) i .bound ⌝ }
+{
+    l[1352 + 3 * i]
+}
+
+// What loop i adds to an edge from u to v that leaves it: entering it, and all its iterations but the last.
+fn left_by(l: &[u64; 1446], e: &[u64; 128], t: &[u64; 128], u: usize, v: usize, i: usize) -> Cycles
+    requires { ⌜ Checked (now l) ⌝ ∗ ⌜ Capped (now e) × Capped (now t) ⌝ ∗ ⌜ i < length (loopsIn (now l)) ⌝ }
+    ensures { λ r. ⌜ r .0 ≡ min cap (left (byHeader (now (e .entry))) (byHeader (now (t .entry))) u v (loop (loopsIn (now (l .entry))) i)) ⌝ }
+{
+    let header = graph::loop_header(l, i);
+    let last = graph::loop_last(l, i);
+    if graph::range_holds(header, last, u) {
+        if graph::range_holds(header, last, v) {
+            return Cycles(0);
+        }
+        let turns = capped_product(loop_bound(l, i) - 1, Cycles(t[header]));
+        return capped_sum(Cycles(e[header]), turns);
+    }
+    Cycles(0)
+}
+
+// What the edge from u to v leaves.
+fn leave(l: &[u64; 1446], e: &[u64; 128], t: &[u64; 128], u: usize, v: usize) -> Cycles
+    requires { ⌜ Checked (now l) ⌝ ∗ ⌜ Capped (now e) × Capped (now t) ⌝ }
+    ensures { λ r. ⌜ r .0 ≡ min cap (leaving (now (l .entry)) (now (e .entry)) (now (t .entry)) u v) ⌝ }
+{
+    let count = graph::loop_count(l);
+    let mut sum = Cycles(0);
+    let mut i: usize = 0;
+    while i < count {
+        sum = capped_sum(sum, left_by(l, e, t, u, v, i));
+        i += 1;
+    }
+    sum
+}
+
+fn counts(origin: Origin, u: usize) -> bool
+    ensures { λ r. ⌜ r ≡ comes origin u ⌝ }
+{
+    match origin {
+        Origin::Anywhere => true,
+        Origin::Outside(header, last) => !graph::range_holds(header, last, u),
+        Origin::Inside(header, last) => graph::range_holds(header, last, u),
+    }
+}
+
+// What edge i brings to v, with `more` for the visit: nothing if it leads elsewhere or does not count.
+fn offer(
+    l: &[u64; 1446],
+    d: &[u64; 128],
+    e: &[u64; 128],
+    t: &[u64; 128],
+    v: usize,
+    more: Cycles,
+    origin: Origin,
+    i: usize,
+) -> Cycles
+    requires { ⌜ Ready (now l) (now d) (now e) (now t) ⌝ ∗ ⌜ more .0 ≤ cap ⌝ ∗ ⌜ i < edgeCount (now l) ⌝ }
+    ensures { λ r. ⌜ r .0 ≡ offered (now (l .entry)) (now (d .entry)) (now (e .entry)) (now (t .entry)) v (more .0) origin i ⌝ }
+{
+    if graph::edge_to(l, i) != v {
+        return Cycles(0);
+    }
+    let u = graph::edge_from(l, i);
+    if counts(origin, u) {
+        let before = capped_sum(Cycles(d[u]), leave(l, e, t, u, v));
+        return capped_sum(before, more);
+    }
+    Cycles(0)
+}
+
+// The greatest number that an edge brings to v.
+fn best_into(
+    l: &[u64; 1446],
+    d: &[u64; 128],
+    e: &[u64; 128],
+    t: &[u64; 128],
+    v: usize,
+    more: Cycles,
+    origin: Origin,
+) -> Cycles
+    requires { ⌜ Ready (now l) (now d) (now e) (now t) ⌝ ∗ ⌜ more .0 ≤ cap ⌝ }
+    ensures { λ r. ⌜ r .0 ≡ bestInto (now (l .entry)) (now (d .entry)) (now (e .entry)) (now (t .entry)) v (more .0) origin (edgeCount (now (l .entry))) ⌝ }
+{
+    let count = graph::edge_count(l);
+    let mut best = Cycles(0);
+    let mut i: usize = 0;
+    while i < count {
+        best = larger(best, offer(l, d, e, t, v, more, origin, i));
+        i += 1;
+    }
+    best
+}
+
+// The number of a vertex that is no header: the greatest charges since the iteration around it began, or since the walk's start.
+fn visit_number(
+    l: &[u64; 1446],
+    charge: &[u64; 128],
+    d: &[u64; 128],
+    e: &[u64; 128],
+    t: &[u64; 128],
+    v: usize,
+) -> Cycles
+    requires { ⌜ Ready (now l) (now d) (now e) (now t) ⌝ ∗ ⌜ Capped (now charge) ⌝ ∗ ⌜ v < 128 ⌝ }
+    ensures { λ r. ⌜ r .0 ≡ visitNumber (now (l .entry)) (now (charge .entry)) (now (d .entry)) (now (e .entry)) (now (t .entry)) v ⌝ }
+{
+    let own = Cycles(charge[v]);
+    if v == 0 {
+        return own;
+    }
+    best_into(l, d, e, t, v, own, Origin::Anywhere)
+}
+
+// The number of entering loop i: the greatest charges that the iteration around it, or the walk, has by then.
+fn entry_number(l: &[u64; 1446], d: &[u64; 128], e: &[u64; 128], t: &[u64; 128], i: usize) -> Cycles
+    requires { ⌜ Ready (now l) (now d) (now e) (now t) ⌝ ∗ ⌜ i < length (loopsIn (now l)) ⌝ }
+    ensures { λ r. ⌜ r .0 ≡ entryNumber (now (l .entry)) (now (d .entry)) (now (e .entry)) (now (t .entry)) (loop (loopsIn (now (l .entry))) i) ⌝ }
+{
+    let header = graph::loop_header(l, i);
+    if header == 0 {
+        return Cycles(0);
+    }
+    best_into(
+        l,
+        d,
+        e,
+        t,
+        header,
+        Cycles(0),
+        Origin::Outside(header, graph::loop_last(l, i)),
+    )
+}
+
+// The number of loop i's iteration: the greatest charges from its header until just before the next visit to it.
+fn turn_number(l: &[u64; 1446], d: &[u64; 128], e: &[u64; 128], t: &[u64; 128], i: usize) -> Cycles
+    requires { ⌜ Ready (now l) (now d) (now e) (now t) ⌝ ∗ ⌜ i < length (loopsIn (now l)) ⌝ }
+    ensures { λ r. ⌜ r .0 ≡ turnNumber (now (l .entry)) (now (d .entry)) (now (e .entry)) (now (t .entry)) (loop (loopsIn (now (l .entry))) i) ⌝ }
+{
+    let header = graph::loop_header(l, i);
+    best_into(
+        l,
+        d,
+        e,
+        t,
+        header,
+        Cycles(0),
+        Origin::Inside(header, graph::loop_last(l, i)),
+    )
+}
+
+// The loop that begins at v, or the number of loops if none does.
+fn loop_at(l: &[u64; 1446], v: usize) -> usize
+    requires { ⌜ Checked (now l) ⌝ }
+    ensures { λ r. ⌜ BeginsAt (loopsIn (now (l .entry))) v r ⌝ }
+{
+    let count = graph::loop_count(l);
+    let mut i: usize = 0;
+    while i < count {
+        if graph::loop_header(l, i) == v {
+            return i;
+        }
+        i += 1;
+    }
+    count
+}
+
+// The numbers of the vertices from `first` to `to`, the latter not counted, and of the loops among them.
+fn range(
+    l: &[u64; 1446],
+    charge: &[u64; 128],
+    d: &mut [u64; 128],
+    e: &mut [u64; 128],
+    t: &mut [u64; 128],
+    first: usize,
+    to: usize,
+)
+    requires { ⌜ Part (now l) first to ⌝ ∗ ⌜ Filling (now l) (now charge) (now d) (now e) (now t) first (Since first first) ⌝ }
+    ensures { λ _. ⌜ Filling (now (l .entry)) (now (charge .entry)) (now (d .exit)) (now (e .exit)) (now (t .exit)) to (Since first to) ⌝ }
+{
+    let count = graph::loop_count(l);
+    let mut v = first;
+    while v < to {
+        let i = loop_at(l, v);
+        if i < count {
+            iteration(l, charge, d, e, t, i);
+            v = graph::loop_last(l, i) + 1;
+        } else {
+            let number = visit_number(l, charge, d, e, t, v);
+            d[v] = number.0;
+            v += 1;
+        }
+    }
+}
+
+// The numbers of loop i: of entering it, of the vertices in its range and the loops inside it, and of its iteration, which rests on those.
+fn iteration(
+    l: &[u64; 1446],
+    charge: &[u64; 128],
+    d: &mut [u64; 128],
+    e: &mut [u64; 128],
+    t: &mut [u64; 128],
+    i: usize,
+)
+    requires { ⌜ i < length (loopsIn (now l)) ⌝ ∗ ⌜ Filling (now l) (now charge) (now d) (now e) (now t) (loop (loopsIn (now l)) i .header) (Before (loop (loopsIn (now l)) i .header)) ⌝ }
+    ensures { λ _. ⌜ Filling (now (l .entry)) (now (charge .entry)) (now (d .exit)) (now (e .exit)) (now (t .exit)) (loop (loopsIn (now (l .entry))) i .last + 1) (After (loop (loopsIn (now (l .entry))) i .header) (loop (loopsIn (now (l .entry))) i .last)) ⌝ }
+{
+    let header = graph::loop_header(l, i);
+    let last = graph::loop_last(l, i);
+    let entry = entry_number(l, d, e, t, i);
+    e[header] = entry.0;
+    d[header] = charge[header];
+    range(l, charge, d, e, t, header + 1, last + 1);
+    let turn = turn_number(l, d, e, t, i);
+    t[header] = turn.0;
+}
+
+// The greatest sum of charges over all lawful walks, exact up to the bound's limit.
+pub fn greatest_charges(l: &[u64; 1446], charge: &[u64; 128]) -> Cycles
+    requires { ⌜ Checked (now l) ⌝ ∗ ⌜ Capped (now charge) ⌝ }
+    ensures { λ r. ⌜ Longest (problemOf (now (l .entry))) (byVertex (now (charge .entry))) (r .0) ⌝ }
+{
+    let vertices = graph::vertex_count(l);
+    let mut d = [0u64; 128];
+    let mut e = [0u64; 128];
+    let mut t = [0u64; 128];
+    range(l, charge, &mut d, &mut e, &mut t, 0, vertices);
+    Cycles(d[vertices - 1])
+}

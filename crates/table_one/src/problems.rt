@@ -1,0 +1,134 @@
+// The worked problems P and R of document 01.
+use model::Bytes;
+use model::Cycles;
+use model::Edge;
+use model::Function;
+use model::Loop;
+use model::Problem;
+use model::Vertex;
+
+fn function(size: u64, load: u64) -> Function {
+    Function {
+        size: Bytes(size),
+        load: Cycles(load),
+    }
+}
+
+fn vertex(function: usize, cost: u64) -> Vertex {
+    Vertex {
+        function: function,
+        cost: Cycles(cost),
+    }
+}
+
+fn edge(from: usize, to: usize) -> Edge {
+    Edge { from: from, to: to }
+}
+
+// Three functions of sizes 8, 4, 6 and load costs 5, 3, 4.
+fn functions_p() -> [Function; 32] {
+    let mut functions = [function(0, 0); 32];
+    functions[0] = function(8, 5);
+    functions[1] = function(4, 3);
+    functions[2] = function(6, 4);
+    functions
+}
+
+// Vertices of functions 0 1 0 2 0 1 0, each cost 10.
+fn vertices_p() -> [Vertex; 128] {
+    let mut vertices = [vertex(0, 0); 128];
+    vertices[0] = vertex(0, 10);
+    vertices[1] = vertex(1, 10);
+    vertices[2] = vertex(0, 10);
+    vertices[3] = vertex(2, 10);
+    vertices[4] = vertex(0, 10);
+    vertices[5] = vertex(1, 10);
+    vertices[6] = vertex(0, 10);
+    vertices
+}
+
+// A chain of six edges.
+fn edges_p() -> [Edge; 512] {
+    let mut edges = [edge(0, 0); 512];
+    edges[0] = edge(0, 1);
+    edges[1] = edge(1, 2);
+    edges[2] = edge(2, 3);
+    edges[3] = edge(3, 4);
+    edges[4] = edge(4, 5);
+    edges[5] = edge(5, 6);
+    edges
+}
+
+fn no_loops() -> [Loop; 32] {
+    [Loop {
+        header: 0,
+        last: 0,
+        bound: 0,
+    }; 32]
+}
+
+pub fn p() -> Problem {
+    Problem {
+        scratchpad: Bytes(14),
+        function_count: 3,
+        functions: functions_p(),
+        vertex_count: 7,
+        vertices: vertices_p(),
+        edge_count: 6,
+        edges: edges_p(),
+        loop_count: 0,
+        loops: no_loops(),
+    }
+}
+
+// Two functions of size 1 and load costs 5, 3.
+fn functions_r() -> [Function; 32] {
+    let mut functions = [function(0, 0); 32];
+    functions[0] = function(1, 5);
+    functions[1] = function(1, 3);
+    functions
+}
+
+// Vertices of functions 0 0 1 0 with costs 1, 2, 7, 1.
+fn vertices_r() -> [Vertex; 128] {
+    let mut vertices = [vertex(0, 0); 128];
+    vertices[0] = vertex(0, 1);
+    vertices[1] = vertex(0, 2);
+    vertices[2] = vertex(1, 7);
+    vertices[3] = vertex(0, 1);
+    vertices
+}
+
+fn edges_r() -> [Edge; 512] {
+    let mut edges = [edge(0, 0); 512];
+    edges[0] = edge(0, 1);
+    edges[1] = edge(1, 2);
+    edges[2] = edge(1, 3);
+    edges[3] = edge(2, 1);
+    edges
+}
+
+// One loop, 1 to 2, with bound 4.
+fn loops_r() -> [Loop; 32] {
+    let mut loops = no_loops();
+    loops[0] = Loop {
+        header: 1,
+        last: 2,
+        bound: 4,
+    };
+    loops
+}
+
+pub fn r() -> Problem {
+    Problem {
+        scratchpad: Bytes(2),
+        function_count: 2,
+        functions: functions_r(),
+        vertex_count: 4,
+        vertices: vertices_r(),
+        edge_count: 4,
+        edges: edges_r(),
+        loop_count: 1,
+        loops: loops_r(),
+    }
+}
