@@ -6,8 +6,9 @@ use Rattle.model.specs.declared.Problem.{Problem}
 use Rattle.model.specs.Numbers.{problemOf}
 use Rattle.model.specs.Operations.{readFile, writeProblem, writtenBuffer}
 use Rattle.model.specs.declared.InterferenceAnswer.{InterferenceAnswer}
-use Rattle.model.specs.Results.{InterferenceSays}
-use Rattle.examiner.specs.Outcomes.{Outcome, Results, Refusing, counts, onRead, onWritten, onFilled, ByRead}
+use Rattle.model.specs.declared.BoundAnswer.{BoundAnswer}
+use Rattle.model.specs.Results.{InterferenceSays, BoundSays, runWalk}
+use Rattle.examiner.specs.Outcomes.{Outcome, Results, Refusing, counts, onRead, onWritten, onFilled, onBounded, onRan, heldAfter, ByRead}
 
 -- **examiner_read**
 abbrev pub readOutcome : List ℕ → Outcome
@@ -33,3 +34,18 @@ FillsWords p words after o = (r : InterferenceAnswer) × InterferenceSays p word
 
 abbrev pub InterferenceOutcome : List ℕ → List ℕ → List ℕ → Outcome → Type 0
 InterferenceOutcome file words after o = ByRead (readFile file) (λ p. FillsWords p words after o) (λ f. (o ≡ Refusing f) × (after ≡ words))
+
+-- **examiner_bound**: what Bound says of the problem and the layout.
+abbrev pub IsBounded : Problem → List ℕ → Outcome → Type 0
+IsBounded p layout o = (r : BoundAnswer) × BoundSays p layout r × (o ≡ onBounded r)
+
+abbrev pub BoundOutcome : List ℕ → List ℕ → Outcome → Type 0
+BoundOutcome file layout o = ByRead (readFile file) (λ p. IsBounded p layout o) (λ f. o ≡ Refusing f)
+
+-- **examiner_run**
+abbrev pub runOutcome : List ℕ → List ℕ → List ℕ → Outcome
+runOutcome file layout walk = onRead (readFile file) (λ p. onRan (runWalk p layout walk .verdict)) Refusing
+
+abbrev pub runHeld : List ℕ → List ℕ → List ℕ → List ℕ → List ℕ
+runHeld file layout walk held =
+    onRead (readFile file) (λ p. heldAfter (runWalk p layout walk .verdict) (runWalk p layout walk .held) held) (λ f. held)

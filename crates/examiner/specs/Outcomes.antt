@@ -12,6 +12,10 @@ use Rattle.model.specs.declared.WriteAnswer.{WriteAnswer}
 use Rattle.model.specs.declared.WriteAnswer.the-variants as write
 use Rattle.model.specs.declared.InterferenceAnswer.{InterferenceAnswer}
 use Rattle.model.specs.declared.InterferenceAnswer.the-variants as interference
+use Rattle.model.specs.declared.BoundAnswer.{BoundAnswer}
+use Rattle.model.specs.declared.BoundAnswer.the-variants as bound
+use Rattle.model.specs.declared.RunVerdict.{RunVerdict}
+use Rattle.model.specs.declared.RunVerdict.the-variants as run
 use Rattle.model.specs.Refusals.{number, place}
 
 -- A result's numbers, or a refusal.
@@ -50,6 +54,21 @@ onWritten (write.Refused f) = Refusing f
 abbrev pub onFilled : InterferenceAnswer → Outcome
 onFilled (interference.Filled n) = Results (n ∷ [])
 onFilled (interference.Refused f) = Refusing f
+
+-- Bound's numbers: bytes needed, number of contested vertices, first loads, bound.
+abbrev pub onBounded : BoundAnswer → Outcome
+onBounded (bound.Bounded b) = Results (b .need .0 ∷ b .contested ∷ b .first .0 ∷ b .bound .0 ∷ [])
+onBounded (bound.Refused f) = Refusing f
+
+-- Run's numbers: cycles and loads.
+abbrev pub onRan : RunVerdict → Outcome
+onRan (run.Ran r) = Results (r .cycles .0 ∷ r .loads ∷ [])
+onRan (run.Refused f) = Refusing f
+
+-- What `held` holds afterwards: the regions' functions, or what it held.
+abbrev pub heldAfter : RunVerdict → List ℕ → List ℕ → List ℕ
+heldAfter (run.Ran r) regions held = regions
+heldAfter (run.Refused f) regions held = held
 
 -- Where the definitions say which outcomes are right, and not by an equation: an outcome that is right, told to the caller.
 pub record Right (Says : Outcome → Type 0) (before after : List ℕ) (returned : ℕ) : Type 0 where

@@ -1,15 +1,18 @@
 // The library for C and Rust callers: an operation an export. Each answers 0, or the refusal's number with its place in answer[0].
+use model::BoundAnswer;
 use model::InterferenceAnswer;
 use model::Problem;
 use model::Refusal;
+use model::RunAnswer;
+use model::RunVerdict;
 use model::Verdict;
 use model::WriteAnswer;
 ghost use mathlib.Core.Path.{_≡_};
 ghost use mathlib.Core.List.{_∷_};
 ghost use lib.ListN.{length};
 ghost use Rattle.model.specs.Operations.{writtenBuffer};
-ghost use Rattle.examiner.specs.Outcomes.{Results, Refusing, status, answerAfter, counts, onWritten, onFilled, Right};
-ghost use Rattle.examiner.specs.Exports.{readOutcome, writeOutcome, writeOut, fieldsProblem, fieldsOutcome, InterferenceOutcome};
+ghost use Rattle.examiner.specs.Outcomes.{Results, Refusing, status, answerAfter, counts, onWritten, onFilled, onBounded, onRan, heldAfter, Right};
+ghost use Rattle.examiner.specs.Exports.{readOutcome, writeOutcome, writeOut, fieldsProblem, fieldsOutcome, InterferenceOutcome, BoundOutcome, runOutcome, runHeld};
 
 // Tells a refusal.
 fn refuse(refusal: Refusal, answer: &mut [u64; 4]) -> u32
@@ -130,4 +133,73 @@ pub extern "C" fn examiner_interference(
         return refuse(model::refusal_in(verdict), answer);
     };
     tell_filled(interference::interference(read.problem, words), answer)
+}
+
+// Tells what Bound gave.
+fn tell_bounded(bounded: BoundAnswer, answer: &mut [u64; 4]) -> u32
+    ensures { λ r. ⌜ r ≡ status (onBounded bounded) ⌝ ∗ ⌜ now (answer .exit) ≡ answerAfter (onBounded bounded) (now (answer .entry)) ⌝ }
+{
+    match bounded {
+        BoundAnswer::Refused(refusal) => refuse(refusal, answer),
+        BoundAnswer::Bounded(b) => {
+            answer[0] = b.need.0;
+            answer[1] = b.contested as u64;
+            answer[2] = b.first.0;
+            answer[3] = b.bound.0;
+            0
+        }
+    }
+}
+
+// **Bound** of the problem that the file holds, with a layout: bytes needed, contested vertices, first loads, bound.
+#[no_mangle]
+pub extern "C" fn examiner_bound(file: &[u8], layout: &[u8], answer: &mut [u64; 4]) -> u32
+    ensures { λ r. ⌜ Right (BoundOutcome (now (file .entry)) (now (layout .entry))) (now (answer .entry)) (now (answer .exit)) r ⌝ }
+{
+    let read = file::read(file);
+    let verdict = read.verdict;
+    let Verdict::Accepted = verdict else {
+        return refuse(model::refusal_in(verdict), answer);
+    };
+    tell_bounded(bound::bound(read.problem, layout), answer)
+}
+
+// Tells what Run gave.
+fn tell_ran(ran: RunAnswer, held: &mut [u8; 32], answer: &mut [u64; 4]) -> u32
+    ensures { λ r. ⌜ r ≡ status (onRan (ran .verdict)) ⌝ }
+    ensures { λ r. ⌜ now (answer .exit) ≡ answerAfter (onRan (ran .verdict)) (now (answer .entry)) ⌝ }
+    ensures { λ r. ⌜ now (held .exit) ≡ heldAfter (ran .verdict) (ran .held) (now (held .entry)) ⌝ }
+{
+    let verdict = ran.verdict;
+    match verdict {
+        RunVerdict::Refused(refusal) => refuse(refusal, answer),
+        RunVerdict::Ran(run) => {
+            let regions = ran.held;
+            *held = regions;
+            answer[0] = run.cycles.0;
+            answer[1] = run.loads;
+            0
+        }
+    }
+}
+
+// **Run** of a walk in the problem that the file holds, with a layout: cycles and loads, and the function held in each region.
+#[no_mangle]
+pub extern "C" fn examiner_run(
+    file: &[u8],
+    layout: &[u8],
+    walk: &[u32],
+    held: &mut [u8; 32],
+    answer: &mut [u64; 4],
+) -> u32
+    ensures { λ r. ⌜ r ≡ status (runOutcome (now (file .entry)) (now (layout .entry)) (now (walk .entry))) ⌝ }
+    ensures { λ r. ⌜ now (answer .exit) ≡ answerAfter (runOutcome (now (file .entry)) (now (layout .entry)) (now (walk .entry))) (now (answer .entry)) ⌝ }
+    ensures { λ r. ⌜ now (held .exit) ≡ runHeld (now (file .entry)) (now (layout .entry)) (now (walk .entry)) (now (held .entry)) ⌝ }
+{
+    let read = file::read(file);
+    let verdict = read.verdict;
+    let Verdict::Accepted = verdict else {
+        return refuse(model::refusal_in(verdict), answer);
+    };
+    tell_ran(run::run(read.problem, layout, walk), held, answer)
 }

@@ -1,5 +1,4 @@
 // Prints Table I of document 003, the interference sets of problem P, and the sets of R, which has a loop.
-mod problems;
 mod show;
 
 use model::InterferenceAnswer;
@@ -61,7 +60,7 @@ fn short(name: &[u8], problem: Problem) {
 }
 
 fn main() {
-    table(b"P\n", problems::p(), 7, 3);
-    short(b"P into 20 words: ", problems::p());
-    table(b"R\n", problems::r(), 4, 2);
+    table(b"P\n", samples::p(14), 7, 3);
+    short(b"P into 20 words: ", samples::p(14));
+    table(b"R\n", samples::r(4), 4, 2);
 }

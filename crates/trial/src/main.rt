@@ -1,7 +1,6 @@
 // Runs the library on small files and problems, and prints for each what was run and what came out.
 mod fields;
 mod files;
-mod problems;
 mod round_trip;
 mod show;
 
@@ -10,7 +9,7 @@ fn main() {
     files::refused_by_graph();
     files::m10();
     fields::m10();
-    round_trip::run(b"P", problems::p());
-    round_trip::run(b"Q", problems::q());
-    round_trip::run(b"R", problems::r());
+    round_trip::run(b"P", samples::p(14));
+    round_trip::run(b"Q", samples::q());
+    round_trip::run(b"R", samples::r(4));
 }

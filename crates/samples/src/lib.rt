@@ -1,4 +1,4 @@
-// The worked problems P and R of document 01.
+// The worked problems P, Q and R of document 01, and S, where splitting a region raises the bound.
 use model::Bytes;
 use model::Cycles;
 use model::Edge;
@@ -67,9 +67,10 @@ fn no_loops() -> [Loop; 32] {
     }; 32]
 }
 
-pub fn p() -> Problem {
+// P has a scratchpad of 14; M5 asks it with 13 too.
+pub fn p(scratchpad: u64) -> Problem {
     Problem {
-        scratchpad: Bytes(14),
+        scratchpad: Bytes(scratchpad),
         function_count: 3,
         functions: functions_p(),
         vertex_count: 7,
@@ -81,12 +82,45 @@ pub fn p() -> Problem {
     }
 }
 
-// Two functions of size 1 and load costs 5, 3.
-fn functions_r() -> [Function; 32] {
+// Two functions of size 1 and load costs 5, 3: of Q and R.
+fn functions_q() -> [Function; 32] {
     let mut functions = [function(0, 0); 32];
     functions[0] = function(1, 5);
     functions[1] = function(1, 3);
     functions
+}
+
+// Vertices of functions 0 1 1 0 with costs 10, 10, 20, 10.
+fn vertices_q() -> [Vertex; 128] {
+    let mut vertices = [vertex(0, 0); 128];
+    vertices[0] = vertex(0, 10);
+    vertices[1] = vertex(1, 10);
+    vertices[2] = vertex(1, 20);
+    vertices[3] = vertex(0, 10);
+    vertices
+}
+
+fn edges_q() -> [Edge; 512] {
+    let mut edges = [edge(0, 0); 512];
+    edges[0] = edge(0, 1);
+    edges[1] = edge(0, 2);
+    edges[2] = edge(1, 3);
+    edges[3] = edge(2, 3);
+    edges
+}
+
+pub fn q() -> Problem {
+    Problem {
+        scratchpad: Bytes(2),
+        function_count: 2,
+        functions: functions_q(),
+        vertex_count: 4,
+        vertices: vertices_q(),
+        edge_count: 4,
+        edges: edges_q(),
+        loop_count: 0,
+        loops: no_loops(),
+    }
 }
 
 // Vertices of functions 0 0 1 0 with costs 1, 2, 7, 1.
@@ -108,27 +142,63 @@ fn edges_r() -> [Edge; 512] {
     edges
 }
 
-// One loop, 1 to 2, with bound 4.
-fn loops_r() -> [Loop; 32] {
+// One loop, 1 to 2.
+fn loops_r(bound: u64) -> [Loop; 32] {
     let mut loops = no_loops();
     loops[0] = Loop {
         header: 1,
         last: 2,
-        bound: 4,
+        bound: bound,
     };
     loops
 }
 
-pub fn r() -> Problem {
+// R has bound 4; M9 asks it with bound 1 too.
+pub fn r(bound: u64) -> Problem {
     Problem {
         scratchpad: Bytes(2),
         function_count: 2,
-        functions: functions_r(),
+        functions: functions_q(),
         vertex_count: 4,
         vertices: vertices_r(),
         edge_count: 4,
         edges: edges_r(),
         loop_count: 1,
-        loops: loops_r(),
+        loops: loops_r(bound),
+    }
+}
+
+// Three functions of size 1 and load costs 5, 3, 4.
+fn functions_s() -> [Function; 32] {
+    let mut functions = [function(0, 0); 32];
+    functions[0] = function(1, 5);
+    functions[1] = function(1, 3);
+    functions[2] = function(1, 4);
+    functions
+}
+
+// A short branch through function 1 and a long one through function 2.
+fn vertices_s() -> [Vertex; 128] {
+    let mut vertices = [vertex(0, 0); 128];
+    vertices[0] = vertex(0, 10);
+    vertices[1] = vertex(1, 1);
+    vertices[2] = vertex(2, 100);
+    vertices[3] = vertex(2, 10);
+    vertices
+}
+
+// S: splitting a region raises the bound. With functions 0 and 1 in one region, vertex 1 is contested and costs its load on the short branch alone; with a
+// region of its own, function 1 is cold and is charged on every branch.
+pub fn s() -> Problem {
+    Problem {
+        scratchpad: Bytes(3),
+        function_count: 3,
+        functions: functions_s(),
+        vertex_count: 4,
+        vertices: vertices_s(),
+        edge_count: 4,
+        edges: edges_q(),
+        loop_count: 0,
+        loops: no_loops(),
     }
 }

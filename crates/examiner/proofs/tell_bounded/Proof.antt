@@ -1,0 +1,48 @@
+-- `tell_bounded` meets its contract, for a refusal and for a bound.
+use mathlib.Core.Path.{refl, sym, ap}
+use Rattle.examiner.specs.Outcomes.{onBounded}
+use Rattle.examiner.proofs.Told.{told}
+use borrow.Author.Needs.{needs}
+use Rattle.examiner.proofs.tell_bounded.Statement.{statement}
+use Rattle.examiner.proofs.tell_bounded.Tie as tie
+
+enum-known-bounded : tie.Need-enum-known-bounded
+enum-known-bounded c = search needs
+
+refuse-requires : tie.Need-refuse-requires
+refuse-requires c κs = search needs
+
+enum-known-bounded-2 : tie.Need-enum-known-bounded-2
+enum-known-bounded-2 c = search needs
+
+element-write-answer : tie.Need-element-write-answer
+element-write-answer c = search needs
+
+element-write-answer-2 : tie.Need-element-write-answer-2
+element-write-answer-2 c = search needs
+
+element-write-answer-3 : tie.Need-element-write-answer-3
+element-write-answer-3 c = search needs
+
+element-write-answer-4 : tie.Need-element-write-answer-4
+element-write-answer-4 c = search needs
+
+returns : tie.Need-returns
+returns c = told _ _ _ _ _ (ap onBounded (sym (c .before .before .before .bounded .given .1))) (c .refuse .ensures .0) (c .refuse .ensures .1)
+
+returns-2 : tie.Need-returns-2
+returns-2 c = told _ _ _ _ _ (ap onBounded (sym (c .before .bounded2 .given .1))) refl refl
+
+pub tell-bounded-spec : {M : Type 1} → statement M
+tell-bounded-spec =
+    tie.close
+    (tie.spec
+    enum-known-bounded
+    refuse-requires
+    enum-known-bounded-2
+    element-write-answer
+    element-write-answer-2
+    element-write-answer-3
+    element-write-answer-4
+    returns
+    returns-2)

@@ -1,0 +1,94 @@
+// M2 to M9 of document 01, and a problem where splitting a region raises the bound: what Bound and Run give.
+mod show;
+
+use model::Problem;
+
+fn bound(name: &[u8], problem: Problem, layout: &[u8]) {
+    show::text(name);
+    show::bounded(bound::bound(problem, layout));
+}
+
+fn run(name: &[u8], problem: Problem, layout: &[u8], walk: &[u32]) {
+    show::text(name);
+    show::ran(run::run(problem, layout, walk));
+}
+
+fn marks_of_p() {
+    let walk = [0u32, 1, 2, 3, 4, 5, 6];
+    let second = [0u8, 1, 1];
+    bound(b"M2 P, layout 0 1 1: ", samples::p(14), &second);
+    run(
+        b"M2 P, layout 0 1 1, the chain: ",
+        samples::p(14),
+        &second,
+        &walk,
+    );
+    let third = [0u8, 0, 1];
+    bound(b"M3 P, layout 0 0 1: ", samples::p(14), &third);
+    run(
+        b"M3 P, layout 0 0 1, the chain: ",
+        samples::p(14),
+        &third,
+        &walk,
+    );
+    bound(b"M4 P, empty layout: ", samples::p(14), b"");
+    let apart = [0u8, 1, 2];
+    bound(b"M5 P, layout 0 1 2: ", samples::p(14), &apart);
+    bound(
+        b"M5 P with scratchpad 13, layout 0 1 1: ",
+        samples::p(13),
+        &second,
+    );
+}
+
+fn mark_of_q() {
+    let layout = [0u8, 1];
+    let walk = [0u32, 2, 3];
+    bound(b"M6 Q, layout 0 1: ", samples::q(), &layout);
+    run(
+        b"M6 Q, layout 0 1, walk 0 2 3: ",
+        samples::q(),
+        &layout,
+        &walk,
+    );
+}
+
+fn marks_of_r() {
+    let layout = [0u8, 1];
+    let longest = [0u32, 1, 2, 1, 2, 1, 2, 1, 3];
+    let fifth = [0u32, 1, 2, 1, 2, 1, 2, 1, 2, 1, 3];
+    bound(b"M7 R, layout 0 1: ", samples::r(4), &layout);
+    bound(b"M8 R, empty layout: ", samples::r(4), b"");
+    run(
+        b"M8 R, empty layout, four iterations: ",
+        samples::r(4),
+        b"",
+        &longest,
+    );
+    run(
+        b"M9 R, a fifth visit to vertex 1: ",
+        samples::r(4),
+        &layout,
+        &fifth,
+    );
+    bound(b"M9 R with bound 1, layout 0 1: ", samples::r(1), &layout);
+    bound(b"M9 R with bound 1, empty layout: ", samples::r(1), b"");
+}
+
+fn splitting() {
+    let shared = [0u8, 0, 1];
+    let split = [0u8, 2, 1];
+    bound(
+        b"S, functions 0 and 1 share a region: ",
+        samples::s(),
+        &shared,
+    );
+    bound(b"S, each function has its own: ", samples::s(), &split);
+}
+
+fn main() {
+    marks_of_p();
+    mark_of_q();
+    marks_of_r();
+    splitting();
+}

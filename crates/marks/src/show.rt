@@ -1,0 +1,45 @@
+// Bound's and Run's answers in print.
+use libc::STDOUT_FILENO;
+use model::BoundAnswer;
+use model::Refusal;
+use model::RunAnswer;
+use model::RunVerdict;
+
+pub fn text(words: &[u8]) {
+    io::write_all(STDOUT_FILENO, words);
+}
+
+fn number(name: &[u8], n: u64) {
+    text(name);
+    io::print_decimal(STDOUT_FILENO, n);
+}
+
+fn refusal(refusal: Refusal) {
+    number(b"refused ", model::number_of(refusal) as u64);
+    number(b" at ", model::place_of(refusal));
+}
+
+pub fn bounded(answer: BoundAnswer) {
+    match answer {
+        BoundAnswer::Bounded(b) => {
+            number(b"need ", b.need.0);
+            number(b", contested ", b.contested as u64);
+            number(b", first loads ", b.first.0);
+            number(b", bound ", b.bound.0);
+        }
+        BoundAnswer::Refused(f) => refusal(f),
+    }
+    text(b"\n");
+}
+
+pub fn ran(answer: RunAnswer) {
+    let verdict = answer.verdict;
+    match verdict {
+        RunVerdict::Ran(run) => {
+            number(b"cycles ", run.cycles.0);
+            number(b", loads ", run.loads);
+        }
+        RunVerdict::Refused(f) => refusal(f),
+    }
+    text(b"\n");
+}
