@@ -1,5 +1,6 @@
 //! The worked examples of document 01.
 
+use crate::file::encode;
 use crate::problem::*;
 
 fn problem(scratchpad: u32, functions: &[(u32, u32)], vertices: &[(u32, u32)], edges: &[(u32, u32)], loops: &[(u32, u32, u32)]) -> Problem {
@@ -33,3 +34,28 @@ pub fn r() -> Problem {
 
 /// M10: a whole file of one vertex.
 pub const M10: [u8; 10] = [0x01, 0x08, 0x01, 0x08, 0x05, 0x01, 0x00, 0x0A, 0x00, 0x00];
+
+/// A problem file and a layout, as they are bundled.
+pub struct Sample {
+    /// The name of its folder.
+    pub name: &'static str,
+    /// The file `problem.bin`.
+    pub problem: Vec<u8>,
+    /// The file `layout.bin`, one byte a region.
+    pub layout: Vec<u8>,
+}
+
+/// The bundled samples.
+pub fn samples() -> Vec<Sample> {
+    let sample = |name, problem: &Problem, layout: &[u8]| {
+        let problem = encode(problem, problem.counts()).expect("the worked examples are in range");
+        Sample { name, problem, layout: layout.to_vec() }
+    };
+    vec![
+        sample("p", &p(), &[0, 1, 1]),
+        sample("q", &q(), &[0, 1]),
+        sample("r", &r(), &[0, 1]),
+        sample("r-empty", &r(), &[]),
+        Sample { name: "m10", problem: M10.to_vec(), layout: Vec::new() },
+    ]
+}

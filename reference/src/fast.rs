@@ -4,14 +4,16 @@
 //! included; nothing is kept from one call to the next. The tests hold it to the plain methods of this crate.
 //!
 //! - A set of vertices, functions or loops is one machine word.
-//! - Interference is a flow along the edges that goes on from the lowest vertex whose row has grown.
+//! - Interference is a flow along the edges, in sweeps over the vertices whose rows have grown since they were last passed on.
 //! - Bound needs no interference table. A vertex is contested exactly if some walk arrives at it with another function as the latest
 //!   one visited in the region of its own: one word a vertex says which functions may be the latest of their region, and one which
 //!   may not have been visited yet.
-//! - Run looks each step up in a table of all pairs of vertices.
+//! - Run looks each step up in a table of all pairs of vertices, and counts visits to every vertex as if it were a header.
 
 use crate::layout::Bound;
-use crate::problem::{Refusal, MOST_BOUND, MOST_EDGES, MOST_ENTRIES, MOST_FUNCTIONS, MOST_LOOPS, MOST_SIZE, MOST_VERTICES, MOST_VISITS, REGIONS};
+use crate::problem::{
+    Refusal, MOST_BOUND, MOST_EDGES, MOST_ENTRIES, MOST_FUNCTIONS, MOST_LOOPS, MOST_SIZE, MOST_VERTICES, MOST_VISITS, REGIONS,
+};
 use crate::run::Run;
 
 const NONE: u8 = 255;
@@ -205,7 +207,7 @@ fn judge_edges(flat: &Flat) -> Result<(), Refusal> {
 }
 
 /// For each vertex, where its edges out begin in the list; one place more, for the end.
-fn starts(flat: &Flat) -> [u16; MOST_VERTICES + 1] {
+fn edges_out(flat: &Flat) -> [u16; MOST_VERTICES + 1] {
     let mut starts = [0u16; MOST_VERTICES + 1];
     for &(from, _) in &flat.edge[..flat.edges] {
         starts[usize::from(from) + 1] += 1;
@@ -214,6 +216,56 @@ fn starts(flat: &Flat) -> [u16; MOST_VERTICES + 1] {
         starts[vertex + 1] += starts[vertex];
     }
     starts
+}
+
+/// The starts of the edges into each vertex, ascending, and for each vertex where they begin in that list.
+fn edges_in(flat: &Flat) -> ([u16; MOST_VERTICES + 1], [u8; MOST_EDGES]) {
+    let mut starts = [0u16; MOST_VERTICES + 1];
+    for &(_, to) in &flat.edge[..flat.edges] {
+        starts[usize::from(to) + 1] += 1;
+    }
+    for vertex in 0..flat.vertices {
+        starts[vertex + 1] += starts[vertex];
+    }
+    let mut filled = starts;
+    let mut origins = [0u8; MOST_EDGES];
+    for &(from, to) in &flat.edge[..flat.edges] {
+        let place = &mut filled[usize::from(to)];
+        origins[usize::from(*place) % MOST_EDGES] = from;
+        *place += 1;
+    }
+    (starts, origins)
+}
+
+/// The vertices whose news are still to be passed on, taken in ascending sweeps: what a vertex learns at or below the present one
+/// waits for the next sweep.
+struct Sweep {
+    open: u128,
+    /// The vertices above the present one.
+    ahead: u128,
+}
+
+impl Sweep {
+    fn over(vertices: usize) -> Sweep {
+        Sweep { open: below(vertices), ahead: u128::MAX }
+    }
+
+    #[inline(always)]
+    fn next(&mut self) -> Option<usize> {
+        if self.open == 0 {
+            return None;
+        }
+        let choice = if self.open & self.ahead != 0 { self.open & self.ahead } else { self.open };
+        let lowest = choice & choice.wrapping_neg();
+        self.open ^= lowest;
+        self.ahead = !(lowest | (lowest - 1));
+        Some(lowest.trailing_zeros() as usize)
+    }
+
+    #[inline(always)]
+    fn again(&mut self, vertices: u128) {
+        self.open |= vertices;
+    }
 }
 
 /// Interference.
@@ -234,29 +286,35 @@ pub fn interference(file: &[u8], words: &mut [u32]) -> Result<usize, Refusal> {
 
 /// A row of sets for each vertex, made wider where the next power of two is.
 fn flow<const WIDTH: usize>(flat: &Flat, words: &mut [u32]) {
-    let starts = starts(flat);
-    let mut rows = [[0u32; WIDTH]; MOST_VERTICES];
-    let mut open = below(flat.vertices);
-    while open != 0 {
-        let vertex = open.trailing_zeros() as usize;
-        open &= open - 1;
-        let function = usize::from(flat.function[vertex]);
-        let mut after = rows[vertex];
-        for word in &mut after {
-            *word |= 1 << function;
-        }
-        after[function % WIDTH] = 0;
-        for &(_, to) in &flat.edge[usize::from(starts[vertex])..usize::from(starts[vertex + 1])] {
-            let row = &mut rows[usize::from(to)];
-            let mut grown = 0;
-            for (word, &more) in row.iter_mut().zip(&after) {
-                grown |= more & !*word;
+    let (starts, origins) = edges_in(flat);
+    let mut ends = [0u128; MOST_VERTICES];
+    for &(from, to) in &flat.edge[..flat.edges] {
+        ends[usize::from(from)] |= 1 << to;
+    }
+    // the sets on arriving at each vertex, and on leaving it
+    let mut arriving = [[0u32; WIDTH]; MOST_VERTICES];
+    let mut leaving = [[0u32; WIDTH]; MOST_VERTICES];
+    let mut new = below(flat.vertices);
+    let mut sweep = Sweep::over(flat.vertices);
+    while let Some(vertex) = sweep.next() {
+        let mut row = [0u32; WIDTH];
+        for &from in &origins[usize::from(starts[vertex])..usize::from(starts[vertex + 1])] {
+            for (word, &more) in row.iter_mut().zip(&leaving[usize::from(from) % MOST_VERTICES]) {
                 *word |= more;
             }
-            open |= u128::from(grown != 0) << to;
+        }
+        if row != arriving[vertex] || new >> vertex & 1 == 1 {
+            new &= !(1 << vertex);
+            arriving[vertex] = row;
+            let function = usize::from(flat.function[vertex]);
+            for (word, &arrived) in leaving[vertex].iter_mut().zip(&row) {
+                *word = arrived | 1 << function;
+            }
+            leaving[vertex][function % WIDTH] = 0;
+            sweep.again(ends[vertex]);
         }
     }
-    for (words, row) in words.chunks_exact_mut(flat.functions).zip(&rows) {
+    for (words, row) in words.chunks_exact_mut(flat.functions).zip(&arriving) {
         words.copy_from_slice(&row[..flat.functions]);
     }
 }
@@ -270,13 +328,13 @@ fn judge_layout(flat: &Flat, layout: &[u8]) -> Result<([u8; MOST_FUNCTIONS], [u3
     region[..layout.len()].copy_from_slice(layout);
     let mut members = [0u32; REGIONS];
     let mut largest = [0u32; REGIONS];
-    for function in 0..flat.functions {
-        let r = usize::from(region[function]);
-        if r >= REGIONS {
+    for (function, (&region, &size)) in region.iter().zip(&flat.size).enumerate().take(flat.functions) {
+        let region = usize::from(region);
+        if region >= REGIONS {
             return Err(Refusal::at(12, function));
         }
-        members[r] |= 1 << function;
-        largest[r] = largest[r].max(flat.size[function]);
+        members[region] |= 1 << function;
+        largest[region] = largest[region].max(size);
     }
     let need = largest.iter().map(|&size| u64::from(size)).sum();
     if need > u64::from(flat.scratchpad) {
@@ -300,17 +358,17 @@ pub fn bound(file: &[u8], layout: &[u8]) -> Result<Bound, Refusal> {
         rivals[function] = shared & !(1 << function);
         kept[function] = !(u64::from(shared) | 1 << (32 + function));
     }
-    let starts = starts(&flat);
-    let mut open = below(flat.vertices);
-    while open != 0 {
-        let vertex = open.trailing_zeros() as usize;
-        open &= open - 1;
+    let starts = edges_out(&flat);
+    let mut sweep = Sweep::over(flat.vertices);
+    while let Some(vertex) = sweep.next() {
         let function = usize::from(flat.function[vertex]) % MOST_FUNCTIONS;
         let after = arriving[vertex] & kept[function] | 1 << function;
         for &(_, to) in &flat.edge[usize::from(starts[vertex])..usize::from(starts[vertex + 1])] {
             let there = &mut arriving[usize::from(to) % MOST_VERTICES];
-            open |= u128::from(after & !*there != 0) << to;
-            *there |= after;
+            if after & !*there != 0 {
+                *there |= after;
+                sweep.again(1 << to);
+            }
         }
     }
 
@@ -339,71 +397,52 @@ pub fn bound(file: &[u8], layout: &[u8]) -> Result<Bound, Refusal> {
 /// The greatest sum of visit charges, or some number above the limit where it passes that.
 fn greatest(flat: &Flat, charge: &[u64; MOST_VERTICES]) -> u64 {
     const CAP: u64 = MOST_BOUND + 1;
-    // the starts of the edges into each vertex, ascending
-    let mut entry_starts = [0u16; MOST_VERTICES + 1];
-    for &(_, to) in &flat.edge[..flat.edges] {
-        entry_starts[usize::from(to) + 1] += 1;
-    }
-    for vertex in 0..flat.vertices {
-        entry_starts[vertex + 1] += entry_starts[vertex];
-    }
-    let mut filled = entry_starts;
-    let mut entries = [0u8; MOST_EDGES];
-    for &(from, to) in &flat.edge[..flat.edges] {
-        let place = &mut filled[usize::from(to)];
-        entries[usize::from(*place) % MOST_EDGES] = from;
-        *place += 1;
-    }
-
+    let (starts, origins) = edges_in(flat);
+    let origins_of = |vertex: usize| &origins[usize::from(starts[vertex])..usize::from(starts[vertex + 1])];
     // the greatest sum at each vertex since the present iteration of the innermost loop around it began, or since the start
     let mut sum = [0u64; MOST_VERTICES];
     // what leaving a loop adds: the sum on entering it, and all iterations but the last
     let mut left = [0u64; MOST_LOOPS];
-    let mut open = [0u8; MOST_LOOPS];
-    let mut depth = 0;
-    for vertex in 0..flat.vertices {
-        let around = flat.around[vertex];
-        let over = |from: u8, sum: &[u64; MOST_VERTICES], left: &[u64; MOST_LOOPS]| {
+    // the greatest sum with which these edges arrive at a vertex; every loop that they leave is closed
+    let arriving = |origins: &[u8], vertex: usize, sum: &[u64; MOST_VERTICES], left: &[u64; MOST_LOOPS]| {
+        let mut best = 0;
+        for &from in origins {
             let mut total = sum[usize::from(from) % MOST_VERTICES];
-            let mut leaving = flat.around[usize::from(from) % MOST_VERTICES] & !around;
+            let mut leaving = flat.around[usize::from(from) % MOST_VERTICES] & !flat.around[vertex];
             while leaving != 0 {
                 total = (total + left[leaving.trailing_zeros() as usize]).min(CAP);
                 leaving &= leaving - 1;
             }
-            total
-        };
-        let edges_in = &entries[usize::from(entry_starts[vertex])..usize::from(entry_starts[vertex + 1])];
-        let mut best = 0;
-        for &from in edges_in.iter().take_while(|&&from| usize::from(from) < vertex) {
-            best = best.max(over(from, &sum, &left));
+            best = best.max(total);
         }
-        let headed = flat.headed[vertex];
-        if headed != 0 {
-            let index = headed.trailing_zeros() as usize;
+        best
+    };
+    // the loops around the present vertex, the innermost on top
+    let mut open = [0u8; MOST_LOOPS];
+    let mut depth = 0;
+    for vertex in 0..flat.vertices {
+        let origins = origins_of(vertex);
+        let lower = origins.iter().take_while(|&&from| usize::from(from) < vertex).count();
+        let mut best = arriving(&origins[..lower], vertex, &sum, &left);
+        if flat.headed[vertex] != 0 {
+            let index = flat.headed[vertex].trailing_zeros() as usize;
             left[index] = best;
             open[depth] = index as u8;
             depth += 1;
             best = 0;
         }
         sum[vertex] = (best + charge[vertex]).min(CAP);
-        while depth > 0 && usize::from(flat.looped[usize::from(open[depth - 1])].1) == vertex {
-            depth -= 1;
-            let index = usize::from(open[depth]);
-            let (header, _, bound) = flat.looped[index];
-            let header = usize::from(header);
-            let mut iteration = 0;
-            for &from in entries[usize::from(entry_starts[header])..usize::from(entry_starts[header + 1])].iter().rev() {
-                if usize::from(from) < header {
-                    break;
-                }
-                let mut total = sum[usize::from(from)];
-                let mut leaving = flat.around[usize::from(from)] & !flat.around[header];
-                while leaving != 0 {
-                    total = (total + left[leaving.trailing_zeros() as usize]).min(CAP);
-                    leaving &= leaving - 1;
-                }
-                iteration = iteration.max(total);
+        while depth > 0 {
+            let index = usize::from(open[depth - 1]);
+            let (header, last, bound) = flat.looped[index];
+            if usize::from(last) != vertex {
+                break;
             }
+            depth -= 1;
+            let header = usize::from(header);
+            let origins = origins_of(header);
+            let lower = origins.iter().take_while(|&&from| usize::from(from) < header).count();
+            let iteration = arriving(&origins[lower..], header, &sum, &left);
             let earlier = (u128::from(iteration) * u128::from(bound - 1)).min(u128::from(CAP)) as u64;
             left[index] = (left[index] + earlier).min(CAP);
         }
@@ -411,11 +450,11 @@ fn greatest(flat: &Flat, charge: &[u64; MOST_VERTICES]) -> u64 {
     sum[flat.vertices - 1]
 }
 
-/// Run.
+/// Run. No step branches on what the walk does: only a refusal leaves the loop.
 pub fn run(file: &[u8], layout: &[u8], walk: &[u32]) -> Result<Run, Refusal> {
-    const STEP: u8 = 1;
-    const ENTRY: u8 = 2;
-    const RETURN: u8 = 3;
+    // what an edge does to the visits to its end in the present stay
+    const STARTS: i8 = 1;
+    const GOES_ON: i8 = -1;
     let flat = read(file)?;
     let (region, _, _) = judge_layout(&flat, layout)?;
     if walk.len() > MOST_ENTRIES {
@@ -424,56 +463,64 @@ pub fn run(file: &[u8], layout: &[u8], walk: &[u32]) -> Result<Run, Refusal> {
     if walk.first() != Some(&0) {
         return Err(Refusal::at(15, 0));
     }
-    // for each pair of vertices, what kind of edge leads from one to the other
-    let mut kind = [0u8; MOST_VERTICES * MOST_VERTICES];
+    // for each pair of vertices, the edge from one to the other, 0 for none
+    let mut edges = [0i8; MOST_VERTICES * MOST_VERTICES];
     for &(from, to) in &flat.edge[..flat.edges] {
-        let headed = flat.headed[usize::from(to)];
-        kind[usize::from(from) * MOST_VERTICES + usize::from(to)] = match headed {
-            0 => STEP,
-            _ if flat.around[usize::from(from)] & headed == 0 => ENTRY,
-            _ => RETURN,
-        };
+        let returns = flat.around[usize::from(from)] & flat.headed[usize::from(to)] != 0;
+        edges[usize::from(from) * MOST_VERTICES + usize::from(to)] = if returns { GOES_ON } else { STARTS };
     }
-    // for each vertex its own cost, its function's load cost, the function and the region
-    let mut price = [(0u32, 0u32, NONE, 0u8); MOST_VERTICES];
-    for (price, (&function, &cost)) in price.iter_mut().zip(flat.function.iter().zip(&flat.cost)).take(flat.vertices) {
-        *price = (cost, flat.load[usize::from(function)], function, region[usize::from(function)]);
+    let mut stops = [Stop { cost: 0, load: 0, bound: u32::MAX, visits: 0, function: NONE, region: 0 }; MOST_VERTICES];
+    for (stop, (&function, &cost)) in stops.iter_mut().zip(flat.function.iter().zip(&flat.cost)).take(flat.vertices) {
+        stop.cost = cost;
+        stop.load = flat.load[usize::from(function)];
+        stop.function = function;
+        stop.region = region[usize::from(function)];
     }
-    let mut bound = [0u32; MOST_VERTICES];
-    for &(header, _, most) in &flat.looped[..flat.loops] {
-        bound[usize::from(header)] = most;
+    for &(header, _, bound) in &flat.looped[..flat.loops] {
+        stops[usize::from(header)].bound = bound;
     }
 
-    let mut visits = [0u32; MOST_VERTICES];
-    visits[0] = 1;
+    stops[0].visits = 1;
     let mut held = [NONE; REGIONS];
-    let (first_cost, first_load, first_function, first_region) = price[0];
-    held[usize::from(first_region)] = first_function;
-    let mut cycles = u64::from(first_cost) + u64::from(first_load);
+    held[usize::from(stops[0].region)] = stops[0].function;
+    let mut cycles = u64::from(stops[0].cost) + u64::from(stops[0].load);
     let mut loads = 1;
     let mut before = 0;
     for (position, &entry) in walk.iter().enumerate().skip(1) {
         let vertex = entry as usize;
-        if vertex >= MOST_VERTICES || kind[before * MOST_VERTICES + vertex] == 0 {
+        if vertex >= MOST_VERTICES {
             return Err(Refusal::at(15, position));
         }
-        let arrives = kind[before * MOST_VERTICES + vertex];
-        if arrives != STEP {
-            visits[vertex] = if arrives == RETURN { visits[vertex] + 1 } else { 1 };
-            if visits[vertex] > bound[vertex] {
-                return Err(Refusal::at(16, position));
-            }
+        let edge = edges[before * MOST_VERTICES + vertex];
+        let stop = &mut stops[vertex];
+        stop.visits = (stop.visits & i32::from(edge >> 7) as u32) + 1;
+        if edge == 0 {
+            return Err(Refusal::at(15, position));
         }
-        let (cost, load, function, region) = price[vertex];
-        let place = &mut held[usize::from(region) % REGIONS];
-        let loaded = *place != function;
-        *place = function;
-        loads += u64::from(loaded);
-        cycles += u64::from(cost) + if loaded { u64::from(load) } else { 0 };
+        if stop.visits > stop.bound {
+            return Err(Refusal::at(16, position));
+        }
+        let place = &mut held[usize::from(stop.region) % REGIONS];
+        let loaded = u64::from(*place != stop.function);
+        *place = stop.function;
+        loads += loaded;
+        cycles += u64::from(stop.cost) + (u64::from(stop.load) & loaded.wrapping_neg());
         before = vertex;
     }
     if before != flat.vertices - 1 {
         return Err(Refusal::at(15, walk.len()));
     }
     Ok(Run { cycles, loads, held })
+}
+
+/// What a visit to a vertex looks at.
+#[derive(Clone, Copy)]
+struct Stop {
+    cost: u32,
+    load: u32,
+    /// The bound of the loop whose header the vertex is, or no bound.
+    bound: u32,
+    visits: u32,
+    function: u8,
+    region: u8,
 }

@@ -1,6 +1,8 @@
 //! The independent implementation held to itself: each question answered by two methods, on seeded problems. Needs no archive.
 
 use std::collections::BTreeMap;
+use std::fs;
+use std::path::Path;
 
 use examiner_tests::damage::*;
 use examiner_tests::problems::{lawful, with_total, Plan};
@@ -54,11 +56,15 @@ fn generated_problems_are_lawful() {
         saw("a dead loop", problem.loops.iter().any(|l| !left(l)));
         saw("a dead loop in a live one", problem.loops.iter().any(|l| !left(l) && problem.loops.iter().any(|o| holds(o, l) && left(o))));
         saw("a loop of bound 1", problem.loops.iter().any(|l| l.bound == 1));
-        let returns_from_within = |l: &Loop| problem.loops.iter().any(|i| holds(l, i) && problem.edges.iter().any(|e| e.to == l.header && i.holds(e.from)));
+        let returns_from_within =
+            |l: &Loop| problem.loops.iter().any(|i| holds(l, i) && problem.edges.iter().any(|e| e.to == l.header && i.holds(e.from)));
         saw("a return out of an inner loop", problem.loops.iter().any(returns_from_within));
         let leaves = |e: &Edge| problem.loops.iter().filter(|l| l.holds(e.from) && !l.holds(e.to)).count();
         saw("an edge out of three loops", problem.edges.iter().any(|e| leaves(e) >= 3));
-        saw("an edge from one loop into another", problem.edges.iter().any(|e| leaves(e) > 0 && problem.loops.iter().any(|l| l.header == e.to && !l.holds(e.from))));
+        saw(
+            "an edge from one loop into another",
+            problem.edges.iter().any(|e| leaves(e) > 0 && problem.loops.iter().any(|l| l.header == e.to && !l.holds(e.from))),
+        );
         saw("a self edge", problem.edges.iter().any(|e| e.from == e.to));
         saw("a function without a vertex", (0..functions).any(|f| problem.vertices.iter().all(|v| v.function != f)));
         saw("a greatest cost", problem.vertices.iter().any(|v| v.cost == MOST_SIZE));
@@ -263,4 +269,28 @@ fn quick_methods_agree_with_plain_ones() {
     }
     println!("{hits:?}");
     assert!(hits.iter().all(|&times| times > 0), "{hits:?}");
+}
+
+/// What stands between the bars in the rows of the Markdown tables of a text.
+fn table_rows(text: &str) -> Vec<Vec<&str>> {
+    let rows = text.lines().filter(|line| line.starts_with('|'));
+    rows.map(|row| row.trim_matches('|').split('|').map(|cell| cell.trim_matches([' ', '`'])).collect()).collect()
+}
+
+#[test]
+fn samples_are_as_their_page_says() {
+    let folder = Path::new(env!("CARGO_MANIFEST_DIR")).join("../samples");
+    let page = fs::read_to_string(folder.join("README.md")).expect("the page is there");
+    let rows = table_rows(&page);
+    for sample in reference::examples::samples() {
+        let place = folder.join(sample.name);
+        assert_eq!(fs::read(place.join("problem.bin")).expect("bundled"), sample.problem, "{}", sample.name);
+        assert_eq!(fs::read(place.join("layout.bin")).expect("bundled"), sample.layout, "{}", sample.name);
+        let bound = reference::bound(&sample.problem, &sample.layout).expect("accepted");
+        let row = rows.iter().find(|row| row[0] == sample.name).expect("the page names it");
+        assert_eq!(row[3..7], [bound.need, bound.contested, bound.first_loads, bound.bound].map(|number| number.to_string()));
+    }
+    let bytes: Vec<u8> = rows.iter().filter(|row| row.len() == 3).filter_map(|row| u8::from_str_radix(row[1], 16).ok()).collect();
+    let q = reference::examples::samples().into_iter().find(|sample| sample.name == "q").expect("bundled");
+    assert_eq!(bytes, q.problem);
 }
