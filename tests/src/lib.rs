@@ -2,6 +2,7 @@
 
 pub mod damage;
 pub mod layouts;
+pub mod lent;
 pub mod problems;
 pub mod random;
 pub mod walks;

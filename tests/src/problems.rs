@@ -1,5 +1,7 @@
 //! Random problems that pass every check of Read.
 
+use std::collections::BTreeSet;
+
 use reference::problem::*;
 
 use crate::random::Random;
@@ -36,6 +38,8 @@ pub struct Plan {
     pub dead: u64,
     /// Loops that hold one another, as deep as there are loops.
     pub deep: bool,
+    /// The first loop holds all vertices but the first and the last, if there are others.
+    pub around: bool,
 }
 
 impl Plan {
@@ -54,6 +58,7 @@ impl Plan {
             sizes: Amounts::Small,
             dead: if random.percent(30) { 40 } else { 0 },
             deep: random.percent(15),
+            around: random.percent(10),
         }
     }
 
@@ -71,6 +76,7 @@ impl Plan {
             sizes: *random.pick(&[Amounts::Small, Amounts::Small, Amounts::Any, Amounts::Ends]),
             dead: if random.percent(30) { 30 } else { 0 },
             deep: random.percent(20),
+            around: random.percent(20),
         }
     }
 
@@ -98,7 +104,10 @@ impl Nest {
     fn random(random: &mut Random, plan: &Plan) -> Nest {
         let vertices = plan.vertices;
         let wanted = plan.loops.min(vertices - 1);
-        let mut loops = if plan.deep { Nest::deep(random, vertices, wanted) } else { Nest::broad(random, vertices, wanted) };
+        let around = plan.around && vertices > 2 && wanted > 0;
+        let outermost = if around { Some((1, vertices - 2)) } else { None };
+        let mut loops =
+            if plan.deep { Nest::deep(random, vertices, wanted, outermost) } else { Nest::broad(random, vertices, wanted, outermost) };
         loops.sort_unstable();
         // what follows a loop without a way out is reached from before it, so vertex 0 heads none
         let dead = loops.iter().map(|&(header, _)| header > 0 && random.percent(plan.dead)).collect();
@@ -106,20 +115,20 @@ impl Nest {
     }
 
     /// Each range inside the one before.
-    fn deep(random: &mut Random, vertices: usize, wanted: usize) -> Vec<(usize, usize)> {
-        let mut headers: Vec<usize> = (0..vertices - 1).collect();
+    fn deep(random: &mut Random, vertices: usize, wanted: usize, outermost: Option<(usize, usize)>) -> Vec<(usize, usize)> {
+        let mut headers: Vec<usize> = (outermost.map_or(0, |(header, _)| header + 1)..vertices - 1).collect();
         random.shuffle(&mut headers);
-        headers.truncate(wanted);
+        headers.truncate(wanted - outermost.map_or(0, |_| 1));
         headers.sort_unstable();
         let innermost = headers.last().copied().unwrap_or(0);
         let mut lasts: Vec<usize> = headers.iter().map(|_| random.count(innermost..=vertices - 2)).collect();
         lasts.sort_unstable();
-        headers.into_iter().zip(lasts.into_iter().rev()).collect()
+        outermost.into_iter().chain(headers.into_iter().zip(lasts.into_iter().rev())).collect()
     }
 
     /// Ranges as they come, where they fit in with those before; single vertices once that has failed often.
-    fn broad(random: &mut Random, vertices: usize, wanted: usize) -> Vec<(usize, usize)> {
-        let mut loops: Vec<(usize, usize)> = Vec::new();
+    fn broad(random: &mut Random, vertices: usize, wanted: usize, outermost: Option<(usize, usize)>) -> Vec<(usize, usize)> {
+        let mut loops: Vec<(usize, usize)> = outermost.into_iter().collect();
         let mut tries = 0;
         while loops.len() < wanted {
             tries += 1;
@@ -148,34 +157,28 @@ impl Nest {
 
     fn random_edges(&self, random: &mut Random, wanted: usize) -> Vec<(usize, usize)> {
         let n = self.vertices;
-        let mut allowed: Vec<(usize, usize)> = (0..n).flat_map(|u| (0..n).map(move |v| (u, v))).filter(|&(u, v)| self.allows(u, v)).collect();
-        let mut edges: Vec<(usize, usize)> = Vec::new();
-        fn need(random: &mut Random, allowed: &[(usize, usize)], edges: &mut Vec<(usize, usize)>, meets: impl Fn(&(usize, usize)) -> bool) {
-            if !edges.iter().any(&meets) {
-                let choices: Vec<(usize, usize)> = allowed.iter().copied().filter(|edge| meets(edge)).collect();
-                edges.push(*random.pick(&choices));
+        let mut allowed: Vec<(usize, usize)> =
+            (0..n).flat_map(|u| (0..n).map(move |v| (u, v))).filter(|&(u, v)| self.allows(u, v)).collect();
+        // what each vertex and each loop must have
+        let mut needs: Vec<Vec<(usize, usize)>> = Vec::new();
+        needs.extend((1..n).map(|vertex| (0..vertex).map(|u| (u, vertex)).collect()));
+        needs.extend(self.loops.iter().map(|&(header, last)| (header..=last).map(|u| (u, header)).collect()));
+        needs.extend((0..n - 1).map(|vertex| (0..n).map(|v| (vertex, v)).collect()));
+        let mut edges = BTreeSet::new();
+        for mut choices in needs {
+            if !choices.iter().any(|edge| edges.contains(edge)) {
+                choices.retain(|&(u, v)| self.allows(u, v));
+                edges.insert(*random.pick(&choices));
             }
-        }
-        for vertex in 1..n {
-            need(random, &allowed, &mut edges, |&(u, v)| v == vertex && u < vertex);
-        }
-        for &(header, last) in &self.loops {
-            need(random, &allowed, &mut edges, |&(u, v)| v == header && header <= u && u <= last);
-        }
-        for vertex in 0..n - 1 {
-            need(random, &allowed, &mut edges, |&(u, _)| u == vertex);
         }
         random.shuffle(&mut allowed);
         for edge in allowed {
             if edges.len() >= wanted {
                 break;
             }
-            if !edges.contains(&edge) {
-                edges.push(edge);
-            }
+            edges.insert(edge);
         }
-        edges.sort_unstable();
-        edges
+        edges.into_iter().collect()
     }
 }
 

@@ -34,7 +34,8 @@ impl Walker<'_> {
             }
             reached = further;
         }
-        let mut walker = Walker { problem, successors: problem.successors(), distance, visits: vec![0; problem.loops.len()], walk: Vec::new() };
+        let mut walker =
+            Walker { problem, successors: problem.successors(), distance, visits: vec![0; problem.loops.len()], walk: Vec::new() };
         walker.enter(0);
         walker
     }
@@ -72,11 +73,7 @@ pub fn wandering(random: &mut Random, problem: &Problem, length: usize, most: us
     while walker.at() != problem.last_vertex() && walker.walk.len() < most {
         let mut choices = walker.choices(most - walker.walk.len() - 1);
         if walker.walk.len() < length {
-            // going on, if that is possible
-            let on: Vec<u32> = choices.iter().copied().filter(|&v| v != problem.last_vertex()).collect();
-            if !on.is_empty() {
-                choices = on;
-            }
+            prefer(&mut choices, |v| v != problem.last_vertex());
         } else if let Some(nearest) = choices.iter().map(|&v| walker.distance[v as usize]).min() {
             choices.retain(|&v| walker.distance[v as usize] == nearest || random.percent(5));
         }
@@ -154,14 +151,20 @@ pub fn damaged(random: &mut Random, problem: &Problem, walk: &[u32], damage: u32
     walk
 }
 
-/// A walk of exactly `length` entries, if random steps find one: towards its end it keeps to vertices from which the last one is
+/// Drops the choices that are not preferred, if some are.
+fn prefer(choices: &mut Vec<u32>, preferred: impl Fn(u32) -> bool) {
+    if choices.iter().any(|&v| preferred(v)) {
+        choices.retain(|&v| preferred(v));
+    }
+}
+
+/// A lawful walk of exactly `length` entries, if random steps find one. Towards its end it keeps to vertices from which the last one is
 /// exactly so many steps away.
 pub fn of_length(random: &mut Random, problem: &Problem, length: usize) -> Option<Vec<u32>> {
     let aim = 400.min(length);
-    let last = problem.vertices.len() - 1;
     // for each number of steps, the vertices from which so many lead to the last one, bounds aside
     let mut exact = vec![vec![false; problem.vertices.len()]; aim];
-    exact[0][last] = true;
+    exact[0][problem.vertices.len() - 1] = true;
     for steps in 1..aim {
         for edge in &problem.edges {
             if exact[steps - 1][edge.to as usize] {
@@ -169,14 +172,18 @@ pub fn of_length(random: &mut Random, problem: &Problem, length: usize) -> Optio
             }
         }
     }
-    'tries: for _ in 0..50 {
+    'tries: for _ in 0..5 {
         let mut walker = Walker::new(problem);
         while walker.walk.len() < length {
             let steps = length - walker.walk.len() - 1;
             let mut choices = walker.choices(usize::MAX);
-            match exact.get(steps) {
-                Some(row) => choices.retain(|&v| row[v as usize]),
-                None => choices.retain(|&v| v as usize != last),
+            choices.retain(|&v| exact[steps.min(aim - 1)][v as usize]);
+            if steps >= aim {
+                // the outermost loop is left, or its header visited, only where nothing else is possible
+                if let Some(outermost) = problem.loops.iter().find(|l| l.holds(walker.at())) {
+                    prefer(&mut choices, |v| outermost.holds(v));
+                    prefer(&mut choices, |v| v != outermost.header);
+                }
             }
             if choices.is_empty() {
                 continue 'tries;

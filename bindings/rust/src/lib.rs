@@ -148,7 +148,7 @@ pub fn bound(file: &[u8], layout: &[u8]) -> Result<Bound, Refusal> {
 /// Runs a walk under a layout, from empty regions: `walk[i]` is the vertex visited at position i.
 ///
 /// # Errors
-/// As [`bound`](crate::bound) but for [`BoundTooLarge`](RefusalKind::BoundTooLarge); then [`WalkTooLong`](RefusalKind::WalkTooLong); then
+/// As `bound` but for [`BoundTooLarge`](RefusalKind::BoundTooLarge); then [`WalkTooLong`](RefusalKind::WalkTooLong); then
 /// [`WrongStep`](RefusalKind::WrongStep) or [`BeyondBound`](RefusalKind::BeyondBound) at the first bad position.
 #[cfg(feature = "run")]
 pub fn run(file: &[u8], layout: &[u8], walk: &[u32]) -> Result<Run, Refusal> {

@@ -49,8 +49,23 @@ impl RefusalKind {
     pub const ALL: [RefusalKind; 17] = {
         use RefusalKind::*;
         [
-            EndsEarly, Misspelt, OutOfRange, NotAscending, LeftOver, MissingEdge, WrongLoop, WrongEdge, NoEdgeBack, BufferTooShort,
-            LayoutTooLong, UnknownRegion, ScratchpadTooSmall, BoundTooLarge, WrongStep, BeyondBound, WalkTooLong,
+            EndsEarly,
+            Misspelt,
+            OutOfRange,
+            NotAscending,
+            LeftOver,
+            MissingEdge,
+            WrongLoop,
+            WrongEdge,
+            NoEdgeBack,
+            BufferTooShort,
+            LayoutTooLong,
+            UnknownRegion,
+            ScratchpadTooSmall,
+            BoundTooLarge,
+            WrongStep,
+            BeyondBound,
+            WalkTooLong,
         ]
     };
 
