@@ -1,5 +1,8 @@
 .PHONY: test staticlib reference compare bench samples header
 
+# The exports that the static library has beside those for files, as EXPORTS=interference,bound; EXPORTS=library for none.
+EXPORTS = interference,bound,run
+
 # The gate.
 test:
 	.ci/run
@@ -12,16 +15,14 @@ staticlib:
 reference:
 	cargo test -p reference -p examiner-tests --no-default-features
 
-# The library held to the independent implementation. CASES=10 tries ten times as many cases. EXPORTS names those that the library has
-# beside the file operations, as EXPORTS=interference,bound; EXPORTS=library for none.
-EXPORTS = interference,bound,run
+# The library held to the independent implementation. CASES=10 tries ten times as many cases.
 compare: staticlib header
 	cargo test -p reference -p examiner --no-default-features
 	cargo test -p examiner-tests --no-default-features --features $(EXPORTS)
 
 # The library's speed against the independent implementation's.
 bench: staticlib
-	cargo run --release -p examiner-tests --bin bench
+	cargo run --release -p examiner-tests --no-default-features --features $(EXPORTS) --bin bench
 
 # The bundled samples, written anew.
 samples:

@@ -213,6 +213,20 @@ pub fn lawful(random: &mut Random, plan: &Plan) -> Problem {
     }
 }
 
+/// A problem with every count at its greatest, whose numbers are as long as their ranges allow: its file is the longest there is.
+pub fn longest(random: &mut Random) -> Problem {
+    loop {
+        let plan = Plan { dead: 0, ..Plan::largest(random) };
+        let mut problem = lawful(random, &plan);
+        if problem.edges.len() == MOST_EDGES {
+            problem.functions.fill(Function { size: MOST_SIZE, load: MOST_SIZE });
+            problem.vertices.iter_mut().for_each(|vertex| vertex.cost = MOST_SIZE);
+            problem.loops.iter_mut().for_each(|l| l.bound = MOST_VISITS);
+            return problem;
+        }
+    }
+}
+
 /// A problem whose greatest visit charges under the empty layout are exactly `total` and whose one function has a load cost of
 /// `load`: nests of three, two and one loops of 65,535 visits, and a vertex outside all loops, each as often as it goes into the rest.
 pub fn with_total(total: u64, load: u32) -> Problem {

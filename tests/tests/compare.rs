@@ -13,7 +13,7 @@ use std::time::Instant;
 
 use examiner_tests::damage::*;
 use examiner_tests::lent::Lent;
-use examiner_tests::problems::{lawful, with_total, Amounts, Plan};
+use examiner_tests::problems::{lawful, longest, with_total, Amounts, Plan};
 use examiner_tests::random::Random;
 use examiner_tests::{effort, layouts, walks};
 use reference::examples::{p, q, r, M10};
@@ -503,6 +503,28 @@ fn limits(c: &mut Comparison) {
     }
 }
 
+/// The longest lawful file, spoilt near its end, and input that is far longer.
+fn long_files(c: &mut Comparison) {
+    for _ in 0..5 {
+        let problem = longest(&mut c.random);
+        let file = file_of(&problem);
+        assert_eq!(file.len(), 2_091);
+        c.problem(&problem);
+        let mut last_bound = file[..2_088].to_vec();
+        last_bound.extend([0xFF, 0xFF, 0xFF, 0xFF, 0x10]);
+        assert_eq!(reference::read(&last_bound), Err(Refusal { number: 2, place: 2_088 }));
+        c.file(&last_bound);
+        for more in [1, 2, 5, 10_000, 100_000] {
+            let longer = [file.clone(), c.random.bytes(more)].concat();
+            c.read(&longer);
+            c.write(&longer, 3_000);
+        }
+        for byte in [0x00, 0x01, 0x7F, 0x80, 0xFF] {
+            c.file(&vec![byte; 100_000]);
+        }
+    }
+}
+
 /// Vertex 1 heads a loop that is left from there; inside it lies a nest worth more than the limit, from which the only way leads back
 /// to vertex 1, or, dead, nowhere.
 fn detour(bound: u32, dead: bool) -> Problem {
@@ -662,20 +684,22 @@ fn empty_slices(c: &mut Comparison) {
 fn main() {
     let mut comparison = Comparison::new();
     type Group = fn(&mut Comparison);
+    // the quick ones first
     let groups: &[(&str, Group)] = &[
         ("empty slices", empty_slices),
-        ("small lawful problems", small_lawful_problems),
-        ("problems of any size", problems_of_any_size),
-        ("problems at every greatest count", problems_at_every_greatest_count),
-        ("damaged bytes", damaged_bytes),
+        ("random small graphs", any_small_graph),
         ("every cut of some files", every_cut),
         ("every value of every byte of small files", every_value_of_every_byte),
-        ("broken rules", broken_rules),
-        ("damaged records", damaged_records),
-        ("random small graphs", any_small_graph),
-        ("limits", limits),
         ("every entry of some walks", every_entry_of_some_walks),
+        ("limits", limits),
+        ("long files", long_files),
         ("long walks", long_walks),
+        ("small lawful problems", small_lawful_problems),
+        ("damaged records", damaged_records),
+        ("damaged bytes", damaged_bytes),
+        ("broken rules", broken_rules),
+        ("problems of any size", problems_of_any_size),
+        ("problems at every greatest count", problems_at_every_greatest_count),
     ];
     for (index, (name, group)) in groups.iter().enumerate() {
         let started = Instant::now();

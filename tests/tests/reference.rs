@@ -5,7 +5,7 @@ use std::fs;
 use std::path::Path;
 
 use examiner_tests::damage::*;
-use examiner_tests::problems::{lawful, with_total, Plan};
+use examiner_tests::problems::{lawful, longest, with_total, Plan};
 use examiner_tests::random::Random;
 use examiner_tests::{effort, layouts, walks};
 use reference::layout::{check, cold, contested, first_loads, visit_charges};
@@ -187,19 +187,9 @@ fn bounds_at_the_limit() {
 
 #[test]
 fn the_longest_lawful_file() {
-    // 128 vertices in a chain, 512 edges, 32 loops; every number as long as its range allows
-    let mut random = Random::seeded(6);
-    let plan = Plan { functions: 32, loops: 32, ..Plan::largest(&mut random) };
-    let mut longest = 0;
-    for _ in 0..20 {
-        let mut problem = lawful(&mut random, &plan);
-        problem.functions.iter_mut().for_each(|f| *f = Function { size: MOST_SIZE, load: MOST_SIZE });
-        problem.vertices.iter_mut().for_each(|v| v.cost = MOST_SIZE);
-        problem.loops.iter_mut().for_each(|l| l.bound = MOST_VISITS);
-        longest = longest.max(file_of(&problem).len());
-        assert!(reference::read(&file_of(&problem)).is_ok());
-    }
-    assert!(longest <= 2_091, "{longest}");
+    let file = file_of(&longest(&mut Random::seeded(6)));
+    assert_eq!(file.len(), 2_091);
+    assert!(reference::read(&file).is_ok());
 }
 
 /// Every refusal that the operations give on these bytes, by the plain methods and by the quick ones.

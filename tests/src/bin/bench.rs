@@ -59,6 +59,7 @@ struct Subject {
     name: String,
     problem: Problem,
     file: Vec<u8>,
+    #[cfg_attr(not(any(feature = "bound", feature = "run")), allow(dead_code))]
     layout: Vec<u8>,
 }
 
@@ -100,11 +101,17 @@ fn largest() -> Plan {
     }
 }
 
-fn read(subject: &Subject) -> (f64, f64) {
-    measure(&mut || _ = black_box(examiner::read(black_box(&subject.file))), &mut || _ = black_box(fast::read(black_box(&subject.file))))
+/// The median times of the library and of the reference; nothing for an export that is left out.
+type Times = Option<(f64, f64)>;
+
+fn read(subject: &Subject) -> Times {
+    Some(measure(&mut || _ = black_box(examiner::read(black_box(&subject.file))), &mut || {
+        _ = black_box(fast::read(black_box(&subject.file)))
+    }))
 }
 
-fn interference(subject: &Subject) -> (f64, f64) {
+#[cfg(feature = "interference")]
+fn interference(subject: &Subject) -> Times {
     let mut library_words = vec![0u32; MOST_VERTICES * MOST_FUNCTIONS];
     let mut reference_words = library_words.clone();
     let times =
@@ -112,40 +119,62 @@ fn interference(subject: &Subject) -> (f64, f64) {
             _ = black_box(fast::interference(black_box(&subject.file), black_box(&mut reference_words)))
         });
     assert_eq!(library_words, reference_words);
-    times
+    Some(times)
 }
 
-fn bound(subject: &Subject) -> (f64, f64) {
+#[cfg(not(feature = "interference"))]
+fn interference(_: &Subject) -> Times {
+    None
+}
+
+#[cfg(feature = "bound")]
+fn bound(subject: &Subject) -> Times {
     let library = examiner::bound(&subject.file, &subject.layout).expect("accepted").bound;
     assert_eq!(library, fast::bound(&subject.file, &subject.layout).expect("accepted").bound);
-    measure(&mut || _ = black_box(examiner::bound(black_box(&subject.file), black_box(&subject.layout))), &mut || {
+    Some(measure(&mut || _ = black_box(examiner::bound(black_box(&subject.file), black_box(&subject.layout))), &mut || {
         _ = black_box(fast::bound(black_box(&subject.file), black_box(&subject.layout)))
-    })
+    }))
 }
 
-fn run(subject: &Subject) -> (f64, f64) {
+#[cfg(not(feature = "bound"))]
+fn bound(_: &Subject) -> Times {
+    None
+}
+
+#[cfg(feature = "run")]
+fn run(subject: &Subject) -> Times {
     let (problem, walk) = long_walk(&subject.problem).expect("the problem was chosen for it");
     let file = file_of(&problem);
     let library = examiner::run(&file, &subject.layout, &walk).expect("lawful");
     assert_eq!(library.cycles, fast::run(&file, &subject.layout, &walk).expect("lawful").cycles);
-    measure(&mut || _ = black_box(examiner::run(black_box(&file), black_box(&subject.layout), black_box(&walk))), &mut || {
+    Some(measure(&mut || _ = black_box(examiner::run(black_box(&file), black_box(&subject.layout), black_box(&walk))), &mut || {
         _ = black_box(fast::run(black_box(&file), black_box(&subject.layout), black_box(&walk)))
-    })
+    }))
 }
 
-fn row(operation: &str, subject: &Subject, (library, reference): (f64, f64), note: &str) {
-    println!("| {operation} | {} | {} | {} | {:.2} | {note} |", subject.name, micros(library), micros(reference), library / reference);
+#[cfg(not(feature = "run"))]
+fn run(_: &Subject) -> Times {
+    None
+}
+
+fn row(operation: &str, subject: &Subject, times: Times, note: impl Fn(f64, f64) -> String) {
+    if let Some((library, reference)) = times {
+        let (ratio, note) = (library / reference, note(library, reference));
+        println!("| {operation} | {} | {} | {} | {ratio:.2} | {note} |", subject.name, micros(library), micros(reference));
+    }
+}
+
+fn cell(times: Times) -> String {
+    times.map_or("not there".to_string(), |(library, reference)| format!("{} ({:.2})", micros(library), library / reference))
 }
 
 fn main() {
     if cfg!(debug_assertions) {
         println!("This build is not for release: the numbers mean nothing.\n");
     }
-    println!(
-        "Median of {TURNS} turns of at least {} µs each, the two in turns; one thread. The reference is its quickest method.",
-        TURN.as_micros()
-    );
-    println!("Buffers are not cleared between repetitions. Every call starts from the bytes of the problem file.\n");
+    println!("Median of {TURNS} turns of at least {} µs each, the two in turns; one thread.", TURN.as_micros());
+    println!("The reference is the independent implementation by its quickest methods, built for release.");
+    println!("Every call starts from the bytes of the problem file. Buffers are not cleared between repetitions.\n");
 
     let full = |problem: &Problem| problem.edges.len() == MOST_EDGES;
     let subjects = [
@@ -158,17 +187,18 @@ fn main() {
     println!("| operation | largest problem | library | reference | ratio | |");
     println!("|---|---|---|---|---|---|");
     for subject in &subjects {
-        row("Read", subject, read(subject), &format!("{} bytes", subject.file.len()));
+        row("Read", subject, read(subject), |_, _| format!("{} bytes", subject.file.len()));
     }
     for subject in &subjects {
-        row("Interference", subject, interference(subject), "4,096 words");
+        row("Interference", subject, interference(subject), |_, _| "4,096 words".to_string());
     }
     for subject in &subjects {
-        row("Bound", subject, bound(subject), "");
+        row("Bound", subject, bound(subject), |_, _| "32 functions in 8 regions".to_string());
     }
     for subject in &subjects[..2] {
-        let times = run(subject);
-        row("Run", subject, times, &format!("1,000,000 entries: {:.2} ns a step, reference {:.2}", times.0 * 1e3, times.1 * 1e3));
+        row("Run", subject, run(subject), |library, reference| {
+            format!("1,000,000 entries: {:.2} ns a step, reference {:.2}", library * 1e3, reference * 1e3)
+        });
     }
 
     println!("\nHow the library's cost grows; in brackets its ratio to the reference.\n");
@@ -183,7 +213,6 @@ fn main() {
         let subject = subject("", &plan, |_| true);
         let Counts { functions, vertices, edges, loops } = subject.problem.counts();
         let nested = if plan.deep { ", each in the one before" } else { "" };
-        let cell = |(library, reference): (f64, f64)| format!("{} ({:.2})", micros(library), library / reference);
         let (read, interference, bound) = (cell(read(&subject)), cell(interference(&subject)), cell(bound(&subject)));
         println!("| {functions} | {vertices} | {edges} | {loops}{nested} | {read} | {interference} | {bound} |");
     }
