@@ -1,3 +1,34 @@
-.PHONY: test
+.PHONY: test staticlib reference compare bench samples header
+
+# The exports that the static library has beside those for files, as EXPORTS=interference,bound; EXPORTS=library for none.
+EXPORTS = interference,bound,run
+
+# The gate.
 test:
 	.ci/run
+
+# The static library for other programs, proved and built: target/staticlib/libexaminer.a
+staticlib:
+	rt staticlib examiner
+
+# The independent implementation held to itself; needs no static library.
+reference:
+	cargo test -p reference -p examiner-tests --no-default-features
+
+# The library held to the independent implementation. CASES=10 tries ten times as many cases.
+compare: staticlib header
+	cargo test -p reference -p examiner --no-default-features
+	cargo test -p examiner-tests --no-default-features --features $(EXPORTS)
+
+# The library's speed against the independent implementation's.
+bench: staticlib
+	cargo run --release -p examiner-tests --no-default-features --features $(EXPORTS) --bin bench
+
+# The bundled samples, written anew.
+samples:
+	cargo run -p reference --bin samples -- samples
+
+# The header by itself, as C and as C++.
+header:
+	$(CC) -std=c99 -pedantic -Wall -Wextra -Werror -fsyntax-only -x c include/examiner.h
+	$(CC) -std=c++11 -pedantic -Wall -Wextra -Werror -fsyntax-only -x c++ include/examiner.h

@@ -1,0 +1,113 @@
+//! A problem as a record with a place for every item that there may be.
+
+use std::mem;
+
+/// A function.
+#[derive(Clone, Copy, Debug, Default, PartialEq, Eq, Hash)]
+#[repr(C)]
+pub struct Function {
+    /// Bytes, 1 to 16,777,215.
+    pub size: u32,
+    /// The load cost in cycles, 0 to 16,777,215.
+    pub load: u32,
+}
+
+/// A vertex.
+#[derive(Clone, Copy, Debug, Default, PartialEq, Eq, Hash)]
+#[repr(C)]
+pub struct Vertex {
+    /// Index of the function that its code belongs to.
+    pub function: u32,
+    /// Its own cost in cycles, 0 to 16,777,215.
+    pub cost: u32,
+}
+
+/// An edge.
+#[derive(Clone, Copy, Debug, Default, PartialEq, Eq, PartialOrd, Ord, Hash)]
+#[repr(C)]
+pub struct Edge {
+    /// The vertex where it starts.
+    pub from: u32,
+    /// The vertex where it ends.
+    pub to: u32,
+}
+
+/// A loop. Its range is `header` to `last`, both counted.
+#[derive(Clone, Copy, Debug, Default, PartialEq, Eq, Hash)]
+#[repr(C)]
+pub struct Loop {
+    /// The lowest vertex of the range.
+    pub header: u32,
+    /// The highest vertex of the range.
+    pub last: u32,
+    /// The most visits to the header in one stay, 1 to 65,535.
+    pub bound: u32,
+}
+
+/// A problem, lawful or not: what [`write_fields`](crate::write_fields) judges and writes.
+///
+/// Only as many items of each list count as its number says. The places behind them are spare: they may have any value and are no
+/// part of the problem.
+#[derive(Clone, Debug, PartialEq, Eq, Hash)]
+#[repr(C)]
+pub struct Fields {
+    /// The scratchpad size in bytes, 1 to 16,777,215.
+    pub scratchpad: u32,
+    /// The number of functions, 1 to 32.
+    pub function_count: u32,
+    /// The functions.
+    pub functions: [Function; 32],
+    /// The number of vertices, 1 to 128.
+    pub vertex_count: u32,
+    /// The vertices. Vertex 0 is first, the highest is last.
+    pub vertices: [Vertex; 128],
+    /// The number of edges, 0 to 512.
+    pub edge_count: u32,
+    /// The edges, strictly ascending by (from, to).
+    pub edges: [Edge; 512],
+    /// The number of loops, 0 to 32.
+    pub loop_count: u32,
+    /// The loops, strictly ascending by header.
+    pub loops: [Loop; 32],
+}
+
+/// The places of a record.
+pub(crate) const PLACES: usize = 1445;
+
+// `Fields` is handed over as so many numbers.
+const _: () = assert!(mem::size_of::<Fields>() == PLACES * mem::size_of::<u32>());
+const _: () = assert!(mem::align_of::<Fields>() == mem::align_of::<u32>());
+
+impl Default for Fields {
+    /// All places zero, which is no lawful problem.
+    fn default() -> Fields {
+        Fields {
+            scratchpad: 0,
+            function_count: 0,
+            functions: [Function::default(); 32],
+            vertex_count: 0,
+            vertices: [Vertex::default(); 128],
+            edge_count: 0,
+            edges: [Edge::default(); 512],
+            loop_count: 0,
+            loops: [Loop::default(); 32],
+        }
+    }
+}
+
+impl Fields {
+    /// A record of these items, every spare place zero; nothing if there are more items than places.
+    pub fn new(scratchpad: u32, functions: &[Function], vertices: &[Vertex], edges: &[Edge], loops: &[Loop]) -> Option<Fields> {
+        let mut fields = Fields { scratchpad, ..Fields::default() };
+        fields.function_count = fill(&mut fields.functions, functions)?;
+        fields.vertex_count = fill(&mut fields.vertices, vertices)?;
+        fields.edge_count = fill(&mut fields.edges, edges)?;
+        fields.loop_count = fill(&mut fields.loops, loops)?;
+        Some(fields)
+    }
+}
+
+fn fill<T: Copy>(places: &mut [T], items: &[T]) -> Option<u32> {
+    places.get_mut(..items.len())?.copy_from_slice(items);
+    Some(items.len() as u32)
+}

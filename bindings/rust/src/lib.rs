@@ -1,0 +1,173 @@
+//! The overlay examiner for Rust programs.
+//!
+//! A controller runs code only from a small scratchpad, whose regions functions take turns in. A *problem* is a block graph with loop
+//! bounds, function sizes and load costs; a *layout* says which function goes to which region. The examiner names the interference,
+//! prices the reloads and gives a worst-case time, or it refuses with a number and a place.
+//!
+//! Every operation takes the problem as its file, and judges that first. The code behind this wrapper is proved against its definitions
+//! for every input; the wrapper is the only Rust code in between.
+//!
+//! ```
+//! // one function of 8 bytes with load cost 5, one vertex of cost 10, scratchpad 8
+//! let file = [0x01, 0x08, 0x01, 0x08, 0x05, 0x01, 0x00, 0x0A, 0x00, 0x00];
+//! assert_eq!(examiner::read(&file)?.vertices, 1);
+//!
+//! let refusal = examiner::read(&[]).unwrap_err();
+//! assert_eq!(refusal.number, examiner::RefusalKind::EndsEarly);
+//! assert_eq!(refusal.to_string(), "refused 1 at 0: the file ends before a number does");
+//! # Ok::<(), examiner::Refusal>(())
+//! ```
+
+mod fields;
+pub mod raw;
+mod refusal;
+
+pub use fields::{Edge, Fields, Function, Loop, Vertex};
+pub use refusal::{Refusal, RefusalKind};
+
+/// The numbers of items in a problem.
+#[derive(Clone, Copy, Debug, PartialEq, Eq, Hash)]
+pub struct Counts {
+    /// Functions, 1 to 32.
+    pub functions: usize,
+    /// Vertices, 1 to 128.
+    pub vertices: usize,
+    /// Edges, 0 to 512.
+    pub edges: usize,
+    /// Loops, 0 to 32.
+    pub loops: usize,
+}
+
+/// What a layout needs, and the worst-case time that it gives.
+#[cfg(feature = "bound")]
+#[derive(Clone, Copy, Debug, PartialEq, Eq, Hash)]
+pub struct Bound {
+    /// The bytes needed: for each region used, the size of its largest function, all added.
+    pub need: u64,
+    /// The number of contested vertices.
+    pub contested: u64,
+    /// The first loads in cycles: the load cost of each cold function once.
+    pub first_loads: u64,
+    /// The bound in cycles: the largest sum of visit charges over all lawful walks, plus the first loads. No lawful walk runs longer.
+    pub bound: u64,
+}
+
+/// What the simulated run of a walk took, and what it left loaded.
+#[cfg(feature = "run")]
+#[derive(Clone, Copy, Debug, PartialEq, Eq, Hash)]
+pub struct Run {
+    /// The simulated cycles.
+    pub cycles: u64,
+    /// How often a function was loaded.
+    pub loads: u64,
+    /// The function held in each region afterwards.
+    pub held: [Option<u8>; 32],
+}
+
+type Answer = [u64; 4];
+
+/// The answer where the returned number is 0, or the refusal that it names.
+fn judge(number: u32, answer: Answer) -> Result<Answer, Refusal> {
+    if number == 0 {
+        return Ok(answer);
+    }
+    let number = RefusalKind::from_number(number).expect("the library's refusals have the numbers 1 to 17");
+    Err(Refusal { number, place: answer[0] })
+}
+
+/// Reads a problem file and judges it whole: its numbers, their ranges and order, and the rules of the graph.
+///
+/// # Errors
+/// [`EndsEarly`](RefusalKind::EndsEarly) to [`LeftOver`](RefusalKind::LeftOver) field by field, then
+/// [`MissingEdge`](RefusalKind::MissingEdge) to [`NoEdgeBack`](RefusalKind::NoEdgeBack), a whole rule at a time.
+pub fn read(file: &[u8]) -> Result<Counts, Refusal> {
+    let mut answer = [0; 4];
+    // SAFETY: `file` and `answer` are valid for the call, and apart.
+    let number = unsafe { raw::examiner_read(file.as_ptr(), file.len(), answer.as_mut_ptr()) };
+    let [functions, vertices, edges, loops] = judge(number, answer)?.map(|count| count as usize);
+    Ok(Counts { functions, vertices, edges, loops })
+}
+
+/// Writes the problem that `file` holds into `out`, and gives the number of bytes written. An accepted file comes back byte for byte.
+/// Bytes of `out` past the file keep their values, and all of them on a refusal.
+///
+/// # Errors
+/// As [`read`]; then [`BufferTooShort`](RefusalKind::BufferTooShort).
+pub fn write(file: &[u8], out: &mut [u8]) -> Result<usize, Refusal> {
+    let mut answer = [0; 4];
+    // SAFETY: the slices and `answer` are valid for the call; what is written to is borrowed for it alone.
+    let number = unsafe { raw::examiner_write(file.as_ptr(), file.len(), out.as_mut_ptr(), out.len(), answer.as_mut_ptr()) };
+    Ok(judge(number, answer)?[0] as usize)
+}
+
+/// Writes a record as a problem file into `out`, and gives the number of bytes written. The record need not be lawful. Bytes of `out`
+/// past the file keep their values, and all of them on a refusal.
+///
+/// # Errors
+/// [`OutOfRange`](RefusalKind::OutOfRange) and [`NotAscending`](RefusalKind::NotAscending) in file order, placed by the bytes that would
+/// be written; then [`MissingEdge`](RefusalKind::MissingEdge) to [`NoEdgeBack`](RefusalKind::NoEdgeBack); last
+/// [`BufferTooShort`](RefusalKind::BufferTooShort).
+pub fn write_fields(fields: &Fields, out: &mut [u8]) -> Result<usize, Refusal> {
+    let mut answer = [0; 4];
+    let places: *const Fields = fields;
+    // SAFETY: `Fields` is laid out as its 1,445 numbers; it, `out` and `answer` are valid for the call; what is written to is borrowed
+    // for it alone.
+    let number = unsafe { raw::examiner_write_fields(places.cast(), out.as_mut_ptr(), out.len(), answer.as_mut_ptr()) };
+    Ok(judge(number, answer)?[0] as usize)
+}
+
+/// Fills `words` with the interference sets, and gives the number of words filled, vertices × functions.
+///
+/// Word v × functions + f has bit g set for each function g, other than f, that some walk arriving at v has visited after its latest
+/// visit to f, or at all if f was not visited before v. Later words keep their values, and all of them on a refusal.
+///
+/// # Errors
+/// As [`read`]; then [`BufferTooShort`](RefusalKind::BufferTooShort).
+#[cfg(feature = "interference")]
+pub fn interference(file: &[u8], words: &mut [u32]) -> Result<usize, Refusal> {
+    let mut answer = [0; 4];
+    // SAFETY: the slices and `answer` are valid for the call; what is written to is borrowed for it alone.
+    let number = unsafe { raw::examiner_interference(file.as_ptr(), file.len(), words.as_mut_ptr(), words.len(), answer.as_mut_ptr()) };
+    Ok(judge(number, answer)?[0] as usize)
+}
+
+/// Prices a layout: `layout[f]` is the region of function f, 0 to 31. A layout shorter than the function list puts the rest in region 0.
+///
+/// # Errors
+/// As [`read`]; then [`LayoutTooLong`](RefusalKind::LayoutTooLong), [`UnknownRegion`](RefusalKind::UnknownRegion),
+/// [`ScratchpadTooSmall`](RefusalKind::ScratchpadTooSmall) and [`BoundTooLarge`](RefusalKind::BoundTooLarge).
+#[cfg(feature = "bound")]
+pub fn bound(file: &[u8], layout: &[u8]) -> Result<Bound, Refusal> {
+    let mut answer = [0; 4];
+    // SAFETY: the slices and `answer` are valid for the call, and `answer` is apart.
+    let number = unsafe { raw::examiner_bound(file.as_ptr(), file.len(), layout.as_ptr(), layout.len(), answer.as_mut_ptr()) };
+    let [need, contested, first_loads, bound] = judge(number, answer)?;
+    Ok(Bound { need, contested, first_loads, bound })
+}
+
+/// Runs a walk under a layout, from empty regions: `walk[i]` is the vertex visited at position i.
+///
+/// # Errors
+/// As `bound` but for [`BoundTooLarge`](RefusalKind::BoundTooLarge); then [`WalkTooLong`](RefusalKind::WalkTooLong); then
+/// [`WrongStep`](RefusalKind::WrongStep) or [`BeyondBound`](RefusalKind::BeyondBound) at the first bad position.
+#[cfg(feature = "run")]
+pub fn run(file: &[u8], layout: &[u8], walk: &[u32]) -> Result<Run, Refusal> {
+    const NONE: u8 = 255;
+    let mut answer = [0; 4];
+    let mut held = [NONE; 32];
+    // SAFETY: the slices, `held` and `answer` are valid for the call; the two that are written to are apart from all others.
+    let number = unsafe {
+        raw::examiner_run(
+            file.as_ptr(),
+            file.len(),
+            layout.as_ptr(),
+            layout.len(),
+            walk.as_ptr(),
+            walk.len(),
+            held.as_mut_ptr(),
+            answer.as_mut_ptr(),
+        )
+    };
+    let [cycles, loads, ..] = judge(number, answer)?;
+    Ok(Run { cycles, loads, held: held.map(|function| (function != NONE).then_some(function)) })
+}

@@ -1,0 +1,121 @@
+//! Refusals.
+
+use std::error::Error;
+use std::fmt;
+
+/// Why an operation refused. The numbers are document 01's.
+#[derive(Clone, Copy, Debug, PartialEq, Eq, PartialOrd, Ord, Hash)]
+#[repr(u32)]
+pub enum RefusalKind {
+    /// 1: the bytes end before a number does. The place is the file's length.
+    EndsEarly = 1,
+    /// 2: a misspelt number: a fifth byte above 0F, or a zero last byte after others. The place is its first byte.
+    Misspelt = 2,
+    /// 3: a number out of range. The place is its first byte.
+    OutOfRange = 3,
+    /// 4: edges do not ascend strictly by (from, to), or loops by header. The place is the item's first byte.
+    NotAscending = 4,
+    /// 5: bytes are left over after the last loop. The place is the first of them.
+    LeftOver = 5,
+    /// 6: a vertex lacks an edge that it must have. The place is the lowest such vertex.
+    MissingEdge = 6,
+    /// 7: a loop crosses an earlier one or holds the last vertex. The place is the lowest such loop.
+    WrongLoop = 7,
+    /// 8: a wrong edge: into a range beside its header, or back to no header around its start. The place is the lowest such edge.
+    WrongEdge = 8,
+    /// 9: a loop has no edge back to its header. The place is the lowest such loop.
+    NoEdgeBack = 9,
+    /// 10: a buffer is too short. The place is the number of bytes, or of words, needed.
+    BufferTooShort = 10,
+    /// 11: the layout is longer than the list of functions. The place is their number.
+    LayoutTooLong = 11,
+    /// 12: a region above 31. The place is the lowest such function.
+    UnknownRegion = 12,
+    /// 13: the layout needs more than the scratchpad. The place is the number of bytes needed.
+    ScratchpadTooSmall = 13,
+    /// 14: the bound passes 1,000,000,000,000,000,000 cycles. The place is 0.
+    BoundTooLarge = 14,
+    /// 15: not vertex 0 at position 0, no edge from the entry before, an unknown vertex, or the end is not the last vertex (then the
+    /// place is the walk's length). The place is the first bad position.
+    WrongStep = 15,
+    /// 16: a stay visits a loop's header more often than its bound. The place is the first bad position.
+    BeyondBound = 16,
+    /// 17: the walk has over 1,000,000 entries. The place is 1,000,000.
+    WalkTooLong = 17,
+}
+
+impl RefusalKind {
+    /// All kinds, by ascending number.
+    pub const ALL: [RefusalKind; 17] = {
+        use RefusalKind::*;
+        [
+            EndsEarly,
+            Misspelt,
+            OutOfRange,
+            NotAscending,
+            LeftOver,
+            MissingEdge,
+            WrongLoop,
+            WrongEdge,
+            NoEdgeBack,
+            BufferTooShort,
+            LayoutTooLong,
+            UnknownRegion,
+            ScratchpadTooSmall,
+            BoundTooLarge,
+            WrongStep,
+            BeyondBound,
+            WalkTooLong,
+        ]
+    };
+
+    /// Document 01's number of this kind, 1 to 17.
+    pub const fn number(self) -> u32 {
+        self as u32
+    }
+
+    /// The kind that has a number in document 01, if any has.
+    pub fn from_number(number: u32) -> Option<RefusalKind> {
+        RefusalKind::ALL.get((number as usize).checked_sub(1)?).copied()
+    }
+
+    /// What is wrong, in a few words.
+    pub const fn description(self) -> &'static str {
+        match self {
+            RefusalKind::EndsEarly => "the file ends before a number does",
+            RefusalKind::Misspelt => "a number is misspelt",
+            RefusalKind::OutOfRange => "a number is out of range",
+            RefusalKind::NotAscending => "edges or loops do not ascend",
+            RefusalKind::LeftOver => "bytes are left over",
+            RefusalKind::MissingEdge => "a vertex lacks an edge",
+            RefusalKind::WrongLoop => "a loop crosses another or holds the last vertex",
+            RefusalKind::WrongEdge => "an edge is wrong",
+            RefusalKind::NoEdgeBack => "a loop has no edge back",
+            RefusalKind::BufferTooShort => "the buffer is too short",
+            RefusalKind::LayoutTooLong => "the layout is longer than the list of functions",
+            RefusalKind::UnknownRegion => "a region is above 31",
+            RefusalKind::ScratchpadTooSmall => "the layout needs more than the scratchpad",
+            RefusalKind::BoundTooLarge => "the bound passes the limit",
+            RefusalKind::WrongStep => "the walk does not follow the graph to its last vertex",
+            RefusalKind::BeyondBound => "a stay visits a header beyond its bound",
+            RefusalKind::WalkTooLong => "the walk is too long",
+        }
+    }
+}
+
+/// A refusal: why, and where.
+#[derive(Clone, Copy, Debug, PartialEq, Eq, Hash)]
+pub struct Refusal {
+    /// Which of document 01's refusals it is.
+    pub number: RefusalKind,
+    /// What it counts depends on the kind: see [`RefusalKind`].
+    pub place: u64,
+}
+
+impl fmt::Display for Refusal {
+    fn fmt(&self, f: &mut fmt::Formatter<'_>) -> fmt::Result {
+        write!(f, "refused {} at {}: {}", self.number.number(), self.place, self.number.description())
+    }
+}
+
+impl Error for Refusal {}

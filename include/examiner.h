@@ -1,0 +1,156 @@
+/*
+ * The overlay examiner as a static library (target/staticlib/libexaminer.a, built by `rt staticlib examiner`), for C and C++ on
+ * x86-64 Linux.
+ *
+ * A problem is always given as its file: edition, scratchpad size, functions, vertices, edges and loops, each number in groups of
+ * seven bits, lowest group first. Every function judges the file before anything else.
+ *
+ * RESULTS
+ *   Each function returns 0, or the number of a refusal with its place in answer[0]. Places of `answer` that a result does not use
+ *   keep their values. On a refusal all other lent memory keeps its values too: `out`, `words`, `held` and answer[1] to answer[3].
+ *
+ * POINTERS
+ *   - A parameter NAME with NAME_length is a slice: a pointer to the first of NAME_length values. `answer`, `held` and `fields` have
+ *     a fixed number of places, and are never null.
+ *   - A pointer is aligned for its type. It is null only together with length 0.
+ *   - No two parameters overlap where one of them is written to (`out`, `words`, `held`, `answer`).
+ *   - Nothing is kept after the return, and nothing is allocated. Calls from several threads need no lock as long as nothing writes
+ *     to memory that is lent to a call.
+ *
+ * REFUSALS
+ *   in the file, field by field
+ *     1   the bytes end before a number does                        place: the file's length
+ *     2   a misspelt number: a fifth byte above 0F (hexadecimal),
+ *         or a zero last byte after others                          place: its first byte
+ *     3   a number out of range                                     place: its first byte
+ *     4   not ascending: edges by (from, to), loops by header       place: the item's first byte
+ *     5   bytes left over after the last loop                       place: the first of them
+ *   in the graph, a whole rule at a time; items count from 0
+ *     6   a vertex lacks an edge that it must have                  place: the lowest vertex
+ *     7   a loop crosses an earlier one or holds the last vertex    place: the lowest loop
+ *     8   a wrong edge                                              place: the lowest edge
+ *     9   a loop with no edge back to its header                    place: the lowest loop
+ *   in what is lent
+ *    10   a buffer is too short                                     place: bytes, or words, needed
+ *   in the layout
+ *    11   longer than the list of functions                         place: the number of functions
+ *    12   a region above 31                                         place: the lowest function
+ *    13   it needs more than the scratchpad                         place: bytes needed
+ *    14   the bound passes EXAMINER_MOST_BOUND                      place: 0
+ *   in the walk
+ *    15   not vertex 0 at position 0, no edge from the entry
+ *         before, an unknown vertex, or the end is not the last
+ *         vertex (then the place is the length)                     place: the first bad position
+ *    16   a header is visited more often than its bound             place: the first bad position
+ *    17   more than EXAMINER_MOST_ENTRIES entries                   place: EXAMINER_MOST_ENTRIES
+ */
+#ifndef EXAMINER_H
+#define EXAMINER_H
+
+#include <stddef.h>
+#include <stdint.h>
+
+#ifdef __cplusplus
+extern "C" {
+#endif
+
+/* The greatest counts of items in a problem. */
+#define EXAMINER_MOST_FUNCTIONS 32
+#define EXAMINER_MOST_VERTICES 128
+#define EXAMINER_MOST_EDGES 512
+#define EXAMINER_MOST_LOOPS 32
+
+/* The places of `answer`, of `held` (regions are 0 to 31) and of `fields`. */
+#define EXAMINER_ANSWERS 4
+#define EXAMINER_REGIONS 32
+#define EXAMINER_FIELDS 1445
+
+/* In `held`: no function was loaded into the region. */
+#define EXAMINER_NONE 255
+
+/* The greatest bound that is given, and the greatest length of a walk. */
+#define EXAMINER_MOST_BOUND UINT64_C(1000000000000000000)
+#define EXAMINER_MOST_ENTRIES 1000000
+
+/*
+ * Read: judges a problem file.
+ *
+ * On 0: answer[0] the number of functions, answer[1] of vertices, answer[2] of edges, answer[3] of loops.
+ * Refusals, in this order: 1 to 5 field by field, then 6, 7, 8, 9.
+ */
+uint32_t examiner_read(const uint8_t *file, size_t file_length, uint64_t *answer);
+
+/*
+ * Write: writes the problem back into `out`. An accepted file comes back byte for byte. Bytes of `out` past the file keep their
+ * values.
+ *
+ * On 0: answer[0] the bytes written.
+ * Refusals: those of examiner_read, then 10 (bytes needed).
+ */
+uint32_t examiner_write(const uint8_t *file, size_t file_length, uint8_t *out, size_t out_length, uint64_t *answer);
+
+/*
+ * Interference: the interference sets of every vertex and function. The set of vertex v and function f holds each g, other than f,
+ * that some walk arriving at v has visited after its latest visit to f, or at all if f was not visited before v. The arrival at v
+ * itself counts neither for f nor for g; loop bounds play no part.
+ *
+ * On 0: words[v * functions + f] has bit g set for each member g, and no other bit; later words keep their values; answer[0] the
+ * words filled, which is vertices * functions.
+ * Refusals: those of examiner_read, then 10 (words needed).
+ */
+uint32_t examiner_interference(const uint8_t *file, size_t file_length, uint32_t *words, size_t words_length, uint64_t *answer);
+
+/*
+ * Bound: the worst-case time under a layout. layout[f] is the region of function f, 0 to 31; a layout shorter than the function list
+ * puts the rest in region 0.
+ *
+ * A vertex is contested if the interference set of it and its function has a function in its function's region. Its visit charge is
+ * its own cost, plus the function's load cost if contested. A function is cold if one of its uncontested vertices can be reached by a
+ * walk with no earlier vertex of that function. The first loads are the load cost of each cold function once. The bound is the largest
+ * sum of visit charges over all lawful walks, plus the first loads. No lawful walk runs longer.
+ *
+ * On 0: answer[0] the bytes needed, answer[1] the number of contested vertices, answer[2] the sum of first loads, answer[3] the bound;
+ * costs are in cycles.
+ * Refusals: those of examiner_read, then 11, 12, 13, 14.
+ */
+uint32_t examiner_bound(const uint8_t *file, size_t file_length, const uint8_t *layout, size_t layout_length, uint64_t *answer);
+
+/*
+ * Run: the simulated cycles of a walk under a layout, from empty regions. A visit costs its vertex's own cost, plus the load cost if
+ * the vertex's function is not the one held in its region; that function is held there afterwards. walk[i] is the vertex visited at
+ * position i.
+ *
+ * On 0: answer[0] the cycles, answer[1] the number of loads, held[r] the function held in region r afterwards, EXAMINER_NONE for none.
+ * Refusals: those of examiner_read, then 11, 12, 13 as examiner_bound, then 17, then 15 or 16 at the first bad position; at one
+ * position 15 goes first. An empty walk is 15 at 0.
+ */
+uint32_t examiner_run(const uint8_t *file, size_t file_length, const uint8_t *layout, size_t layout_length, const uint32_t *walk,
+                      size_t walk_length, uint8_t *held, uint64_t *answer);
+
+/*
+ * Write on any record, lawful or not. `fields` are EXAMINER_FIELDS numbers:
+ *
+ *   place   number
+ *       0   scratchpad size
+ *       1   number of functions
+ *       2   32 times: size, load cost
+ *      66   number of vertices
+ *      67   128 times: function, own cost
+ *     323   number of edges
+ *     324   512 times: from, to
+ *    1348   number of loops
+ *    1349   32 times: header, last, bound
+ *
+ * Places past a count are spare: they may have any value and are no part of the problem. Bytes of `out` past the file keep their
+ * values.
+ *
+ * On 0: answer[0] the bytes written.
+ * Refusals: 3 and 4 in file order, placed by the bytes it would write; then 6, 7, 8, 9; last 10 (bytes needed).
+ */
+uint32_t examiner_write_fields(const uint32_t *fields, uint8_t *out, size_t out_length, uint64_t *answer);
+
+#ifdef __cplusplus
+}
+#endif
+
+#endif

@@ -1,0 +1,79 @@
+//! The overlay examiner once more, written from document 01 alone.
+//!
+//! It exists to be compared with the proved library, so it shares neither code nor representation with it: a problem is a few
+//! `Vec`s, and where document 01 speaks of *all walks* the methods differ as well.
+//!
+//! | question | method used by the operations | checked against |
+//! |---|---|---|
+//! | interference | [`interference::by_search`]: a search backwards for each vertex and function | [`interference::by_states`]: a search over what walks have visited |
+//! | greatest visit charges | [`longest::by_contraction`]: loops become edges, the innermost first | [`longest::by_states`]: the graph unfolded by its visit counts; [`longest::lawful_walks`]: every lawful walk |
+//! | a run | [`run::simulate`]: one pass | [`run::simulate_by_looking_back`]: each visit looks at all before it |
+//!
+//! [`fast`] holds the quickest honest methods known to us; the benchmark measures the library against these.
+//!
+//! The six operations below take the problem as its file, as the exports of the library do.
+
+pub mod examples;
+pub mod fast;
+pub mod file;
+pub mod graph;
+pub mod interference;
+pub mod layout;
+pub mod longest;
+pub mod problem;
+pub mod run;
+
+pub use layout::Bound;
+pub use problem::{Counts, Edge, Function, Loop, Problem, Refusal, Vertex, FIELDS};
+pub use run::Run;
+
+/// Read: the problem that a file holds.
+pub fn read(file: &[u8]) -> Result<Problem, Refusal> {
+    let problem = file::parse(file)?;
+    graph::check(&problem)?;
+    Ok(problem)
+}
+
+/// Write, for a problem given as its file: the bytes written.
+pub fn write(file: &[u8], out: &mut [u8]) -> Result<usize, Refusal> {
+    let problem = read(file)?;
+    write_problem(&problem, problem.counts(), out)
+}
+
+/// Write, for any record: `fields` holds the scratchpad size, then each count with all the places for its items.
+pub fn write_fields(fields: &[u32; FIELDS], out: &mut [u8]) -> Result<usize, Refusal> {
+    let (problem, counts) = problem::from_fields(fields);
+    write_problem(&problem, counts, out)
+}
+
+fn write_problem(problem: &Problem, counts: Counts, out: &mut [u8]) -> Result<usize, Refusal> {
+    let bytes = file::encode(problem, counts)?;
+    graph::check(problem)?;
+    let room = out.get_mut(..bytes.len()).ok_or(Refusal::at(10, bytes.len()))?;
+    room.copy_from_slice(&bytes);
+    Ok(bytes.len())
+}
+
+/// Interference: fills a word for each vertex and function, and gives the number of words filled.
+pub fn interference(file: &[u8], words: &mut [u32]) -> Result<usize, Refusal> {
+    let problem = read(file)?;
+    let sets = interference::by_search(&problem);
+    let room = words.get_mut(..sets.len()).ok_or(Refusal::at(10, sets.len()))?;
+    room.copy_from_slice(&sets);
+    Ok(sets.len())
+}
+
+/// Bound: what a layout needs and the worst-case time it gives.
+pub fn bound(file: &[u8], layout: &[u8]) -> Result<Bound, Refusal> {
+    let problem = read(file)?;
+    let (regions, need) = layout::check(&problem, layout)?;
+    layout::bound(&problem, &regions, need)
+}
+
+/// Run: the simulated cycles of a walk.
+pub fn run(file: &[u8], layout: &[u8], walk: &[u32]) -> Result<Run, Refusal> {
+    let problem = read(file)?;
+    let (regions, _) = layout::check(&problem, layout)?;
+    run::check(&problem, walk)?;
+    Ok(run::simulate(&problem, &regions, walk))
+}

@@ -1,0 +1,146 @@
+//! M1 to M10 of document 01.
+
+use reference::examples::{p, q, r, M10};
+use reference::layout::{check, contested, visit_charges};
+use reference::longest::{by_contraction, by_states, lawful_walks};
+use reference::{bound, file, interference, read, run, write, Bound, Problem, Refusal};
+
+const CHAIN: [u32; 7] = [0, 1, 2, 3, 4, 5, 6];
+
+fn file_of(problem: &Problem) -> Vec<u8> {
+    file::encode(problem, problem.counts()).expect("the worked examples are in range")
+}
+
+fn refused(number: u8, place: u64) -> Refusal {
+    Refusal { number, place }
+}
+
+fn bound_of(problem: &Problem, layout: &[u8]) -> Bound {
+    bound(&file_of(problem), layout).expect("the layout is accepted")
+}
+
+/// The greatest cycles that a lawful walk runs, over all of them.
+fn longest_run(problem: &Problem, layout: &[u8]) -> u64 {
+    let (regions, _) = check(problem, layout).expect("the layout fits");
+    let mut greatest = 0;
+    let all = lawful_walks(problem, 100_000, &mut |walk| {
+        assert_eq!(reference::run::check(problem, walk), Ok(()));
+        greatest = greatest.max(reference::run::simulate(problem, &regions, walk).cycles);
+    });
+    assert!(all);
+    greatest
+}
+
+/// The bound again, from the largest sum over all lawful walks, each walked.
+fn bound_by_all_walks(problem: &Problem, layout: &[u8]) -> u64 {
+    let (regions, _) = check(problem, layout).expect("the layout fits");
+    let contested = contested(problem, &interference::by_states(problem), &regions);
+    let charges = visit_charges(problem, &contested);
+    let mut greatest = 0;
+    assert!(lawful_walks(problem, 100_000, &mut |walk| greatest = greatest.max(reference::run::charges(&charges, walk))));
+    assert_eq!(by_states(problem, &charges, 100_000).expect("few states").0, greatest);
+    assert_eq!(by_contraction(problem, &charges), greatest);
+    let first_loads = reference::layout::first_loads(problem, &reference::layout::cold(problem, &contested));
+    u64::try_from(greatest).expect("small") + first_loads
+}
+
+#[test]
+fn m1_own_sets_of_p() {
+    let problem = p();
+    let mut words = vec![0; 21];
+    assert_eq!(interference(&file_of(&problem), &mut words), Ok(21));
+    let own: Vec<u32> = problem.vertices.iter().enumerate().map(|(v, vertex)| words[v * 3 + vertex.function as usize]).collect();
+    // {}, {0}, {1}, {0,1}, {2}, {0,2}, {1}
+    assert_eq!(own, [0b000, 0b001, 0b010, 0b011, 0b100, 0b101, 0b010]);
+    assert_eq!(words, interference::by_states(&problem));
+}
+
+#[test]
+fn m2_p_with_layout_0_1_1() {
+    let problem = p();
+    assert_eq!(bound_of(&problem, &[0, 1, 1]), Bound { need: 14, contested: 2, first_loads: 8, bound: 85 });
+    assert_eq!(bound_by_all_walks(&problem, &[0, 1, 1]), 85);
+    let run = run(&file_of(&problem), &[0, 1, 1], &CHAIN).expect("lawful");
+    assert_eq!((run.cycles, run.loads), (85, 4));
+    let mut held = [255; 32];
+    held[..2].copy_from_slice(&[0, 1]);
+    assert_eq!(run.held, held);
+}
+
+#[test]
+fn m3_p_with_layout_0_0_1() {
+    let problem = p();
+    assert_eq!(bound_of(&problem, &[0, 0, 1]).bound, 95);
+    assert_eq!(bound_by_all_walks(&problem, &[0, 0, 1]), 95);
+    let run = run(&file_of(&problem), &[0, 0, 1], &CHAIN).expect("lawful");
+    assert_eq!((run.cycles, run.loads), (95, 6));
+}
+
+#[test]
+fn m4_p_with_the_empty_layout() {
+    let Bound { need, bound, .. } = bound_of(&p(), &[]);
+    assert_eq!((need, bound), (8, 100));
+    assert_eq!(bound_by_all_walks(&p(), &[]), 100);
+}
+
+#[test]
+fn m5_p_in_too_small_a_scratchpad() {
+    assert_eq!(bound(&file_of(&p()), &[0, 1, 2]), Err(refused(13, 18)));
+    let smaller = Problem { scratchpad: 13, ..p() };
+    assert_eq!(bound(&file_of(&smaller), &[0, 1, 1]), Err(refused(13, 14)));
+    assert_eq!(run(&file_of(&smaller), &[0, 1, 1], &CHAIN), Err(refused(13, 14)));
+}
+
+#[test]
+fn m6_q() {
+    let problem = q();
+    assert_eq!(bound_of(&problem, &[0, 1]).bound, 48);
+    assert_eq!(bound_by_all_walks(&problem, &[0, 1]), 48);
+    assert_eq!(run(&file_of(&problem), &[0, 1], &[0, 2, 3]).expect("lawful").cycles, 48);
+}
+
+#[test]
+fn m7_r_with_layout_0_1() {
+    assert_eq!(bound_of(&r(), &[0, 1]).bound, 39);
+    assert_eq!(bound_by_all_walks(&r(), &[0, 1]), 39);
+}
+
+#[test]
+fn m8_r_with_the_empty_layout() {
+    assert_eq!(bound_of(&r(), &[]).bound, 65);
+    assert_eq!(bound_by_all_walks(&r(), &[]), 65);
+    assert_eq!(longest_run(&r(), &[]), 60);
+}
+
+#[test]
+fn m9_r_at_its_bound() {
+    let file = file_of(&r());
+    let four_visits = [0, 1, 2, 1, 2, 1, 2, 1, 3];
+    assert!(run(&file, &[0, 1], &four_visits).is_ok());
+    let fifth_visit = [0, 1, 2, 1, 2, 1, 2, 1, 2, 1, 3];
+    assert_eq!(run(&file, &[0, 1], &fifth_visit), Err(refused(16, 9)));
+
+    let mut once = r();
+    once.loops[0].bound = 1;
+    assert_eq!(bound_of(&once, &[0, 1]).bound, 12);
+    assert_eq!(bound_of(&once, &[]).bound, 14);
+    assert_eq!(bound_by_all_walks(&once, &[0, 1]), 12);
+    assert_eq!(bound_by_all_walks(&once, &[]), 14);
+}
+
+#[test]
+fn m10_a_whole_file() {
+    assert!(read(&M10).is_ok());
+    assert_eq!(bound(&M10, &[]), Ok(Bound { need: 8, contested: 0, first_loads: 5, bound: 15 }));
+    assert_eq!(bound(&[], &[]), Err(refused(1, 0)));
+    let mut out = [0; 10];
+    assert_eq!(write(&M10, &mut out), Ok(10));
+    assert_eq!(out, M10);
+}
+
+#[test]
+fn three_hundred_is_ac_02() {
+    assert_eq!(file::spell(300), [0xAC, 0x02]);
+    assert_eq!(file::spell(0), [0x00]);
+    assert_eq!(file::spell(u32::MAX), [0xFF, 0xFF, 0xFF, 0xFF, 0x0F]);
+}

@@ -1,0 +1,219 @@
+//! The library against the quickest honest methods of the independent implementation, in one run.
+//!
+//! Both start from the bytes of the file at each call, on the same inputs, in turns. Build it for release.
+
+use std::hint::black_box;
+use std::time::{Duration, Instant};
+
+use examiner_tests::damage::file_of;
+use examiner_tests::problems::{lawful, Amounts, Plan};
+use examiner_tests::random::Random;
+use examiner_tests::walks;
+use reference::fast;
+use reference::problem::*;
+
+/// Turns that each of the two takes; the median counts.
+const TURNS: usize = 201;
+/// How long one turn lasts at least. Short, so that few turns are broken into by other programs.
+const TURN: Duration = Duration::from_micros(300);
+
+/// The time of one call, by the clock.
+fn time(calls: usize, call: &mut dyn FnMut()) -> f64 {
+    // other programs that wait for the processor go first
+    std::thread::yield_now();
+    let started = Instant::now();
+    for _ in 0..calls {
+        call();
+    }
+    started.elapsed().as_secs_f64() / calls as f64
+}
+
+/// The median times of one call of each, in seconds.
+fn measure(library: &mut dyn FnMut(), reference: &mut dyn FnMut()) -> (f64, f64) {
+    let calls = |call: &mut dyn FnMut()| (TURN.as_secs_f64() / time(3, call).max(1e-9)).ceil() as usize;
+    let (library_calls, reference_calls) = (calls(library), calls(reference));
+    let mut random = Random::seeded(1);
+    let mut times = Vec::new();
+    for _ in 0..TURNS {
+        // either goes first, at random
+        times.push(if random.percent(50) {
+            (time(library_calls, library), time(reference_calls, reference))
+        } else {
+            let reference = time(reference_calls, reference);
+            (time(library_calls, library), reference)
+        });
+    }
+    let mut median = |of: fn(&(f64, f64)) -> f64| {
+        times.sort_by(|a, b| of(a).total_cmp(&of(b)));
+        of(&times[TURNS / 2])
+    };
+    (median(|pair| pair.0), median(|pair| pair.1))
+}
+
+fn micros(seconds: f64) -> String {
+    format!("{:.2} µs", seconds * 1e6)
+}
+
+/// A problem with its file and a layout that Bound accepts.
+struct Subject {
+    name: String,
+    problem: Problem,
+    file: Vec<u8>,
+    #[cfg_attr(not(any(feature = "bound", feature = "run")), allow(dead_code))]
+    layout: Vec<u8>,
+}
+
+/// The first lawful problem of a plan, by ascending seeds, with an accepted layout of eight regions and what else is asked of it.
+fn subject(name: &str, plan: &Plan, suits: impl Fn(&Problem) -> bool) -> Subject {
+    for seed in 1..2_000 {
+        let mut random = Random::seeded(seed);
+        let problem = lawful(&mut random, plan);
+        let layout: Vec<u8> = (0..plan.functions).map(|_| random.field(0..=7) as u8).collect();
+        let file = file_of(&problem);
+        if reference::bound(&file, &layout).is_ok() && suits(&problem) {
+            return Subject { name: name.to_string(), problem, file, layout };
+        }
+    }
+    panic!("no seed suits {name}")
+}
+
+/// The problem with its loops at their greatest bound, and a lawful walk of 1,000,000 entries through it, if one is found.
+fn long_walk(problem: &Problem) -> Option<(Problem, Vec<u32>)> {
+    let mut problem = problem.clone();
+    problem.loops.iter_mut().for_each(|l| l.bound = MOST_VISITS);
+    let walk = walks::of_length(&mut Random::seeded(1), &problem, MOST_ENTRIES)?;
+    Some((problem, walk))
+}
+
+/// Every count at its greatest, or as the fields given say.
+fn largest() -> Plan {
+    Plan {
+        functions: MOST_FUNCTIONS,
+        vertices: MOST_VERTICES,
+        edges: MOST_EDGES,
+        loops: MOST_LOOPS,
+        bounds: vec![2, 3],
+        costs: Amounts::Any,
+        sizes: Amounts::Small,
+        dead: 0,
+        deep: false,
+        around: true,
+    }
+}
+
+/// The median times of the library and of the reference; nothing for an export that is left out.
+type Times = Option<(f64, f64)>;
+
+fn read(subject: &Subject) -> Times {
+    Some(measure(&mut || _ = black_box(examiner::read(black_box(&subject.file))), &mut || {
+        _ = black_box(fast::read(black_box(&subject.file)))
+    }))
+}
+
+#[cfg(feature = "interference")]
+fn interference(subject: &Subject) -> Times {
+    let mut library_words = vec![0u32; MOST_VERTICES * MOST_FUNCTIONS];
+    let mut reference_words = library_words.clone();
+    let times =
+        measure(&mut || _ = black_box(examiner::interference(black_box(&subject.file), black_box(&mut library_words))), &mut || {
+            _ = black_box(fast::interference(black_box(&subject.file), black_box(&mut reference_words)))
+        });
+    assert_eq!(library_words, reference_words);
+    Some(times)
+}
+
+#[cfg(not(feature = "interference"))]
+fn interference(_: &Subject) -> Times {
+    None
+}
+
+#[cfg(feature = "bound")]
+fn bound(subject: &Subject) -> Times {
+    let library = examiner::bound(&subject.file, &subject.layout).expect("accepted").bound;
+    assert_eq!(library, fast::bound(&subject.file, &subject.layout).expect("accepted").bound);
+    Some(measure(&mut || _ = black_box(examiner::bound(black_box(&subject.file), black_box(&subject.layout))), &mut || {
+        _ = black_box(fast::bound(black_box(&subject.file), black_box(&subject.layout)))
+    }))
+}
+
+#[cfg(not(feature = "bound"))]
+fn bound(_: &Subject) -> Times {
+    None
+}
+
+#[cfg(feature = "run")]
+fn run(subject: &Subject) -> Times {
+    let (problem, walk) = long_walk(&subject.problem).expect("the problem was chosen for it");
+    let file = file_of(&problem);
+    let library = examiner::run(&file, &subject.layout, &walk).expect("lawful");
+    assert_eq!(library.cycles, fast::run(&file, &subject.layout, &walk).expect("lawful").cycles);
+    Some(measure(&mut || _ = black_box(examiner::run(black_box(&file), black_box(&subject.layout), black_box(&walk))), &mut || {
+        _ = black_box(fast::run(black_box(&file), black_box(&subject.layout), black_box(&walk)))
+    }))
+}
+
+#[cfg(not(feature = "run"))]
+fn run(_: &Subject) -> Times {
+    None
+}
+
+fn row(operation: &str, subject: &Subject, times: Times, note: impl Fn(f64, f64) -> String) {
+    if let Some((library, reference)) = times {
+        let (ratio, note) = (library / reference, note(library, reference));
+        println!("| {operation} | {} | {} | {} | {ratio:.2} | {note} |", subject.name, micros(library), micros(reference));
+    }
+}
+
+fn cell(times: Times) -> String {
+    times.map_or("not there".to_string(), |(library, reference)| format!("{} ({:.2})", micros(library), library / reference))
+}
+
+fn main() {
+    if cfg!(debug_assertions) {
+        println!("This build is not for release: the numbers mean nothing.\n");
+    }
+    println!("Median of {TURNS} turns of at least {} µs each, the two in turns; one thread.", TURN.as_micros());
+    println!("The reference is the independent implementation by its quickest methods, built for release.");
+    println!("Every call starts from the bytes of the problem file. Buffers are not cleared between repetitions.\n");
+
+    let full = |problem: &Problem| problem.edges.len() == MOST_EDGES;
+    let subjects = [
+        subject("loops side by side and nested", &largest(), |problem| full(problem) && long_walk(problem).is_some()),
+        subject("32 loops, each in the one before", &Plan { deep: true, ..largest() }, |problem| {
+            full(problem) && long_walk(problem).is_some()
+        }),
+        subject("no loops", &Plan { loops: 0, ..largest() }, full),
+    ];
+    println!("| operation | largest problem | library | reference | ratio | |");
+    println!("|---|---|---|---|---|---|");
+    for subject in &subjects {
+        row("Read", subject, read(subject), |_, _| format!("{} bytes", subject.file.len()));
+    }
+    for subject in &subjects {
+        row("Interference", subject, interference(subject), |_, _| "4,096 words".to_string());
+    }
+    for subject in &subjects {
+        row("Bound", subject, bound(subject), |_, _| "32 functions in 8 regions".to_string());
+    }
+    for subject in &subjects[..2] {
+        row("Run", subject, run(subject), |library, reference| {
+            format!("1,000,000 entries: {:.2} ns a step, reference {:.2}", library * 1e3, reference * 1e3)
+        });
+    }
+
+    println!("\nHow the library's cost grows; in brackets its ratio to the reference.\n");
+    println!("| functions | vertices | edges | loops | Read | Interference | Bound |");
+    println!("|---|---|---|---|---|---|---|");
+    let mut grown: Vec<Plan> = Vec::new();
+    grown.extend([16, 32, 64, 128].map(|vertices| Plan { vertices, edges: 2 * vertices, loops: 4, ..largest() }));
+    grown.extend([256, 384, 512].map(|edges| Plan { edges, loops: 4, ..largest() }));
+    grown.extend([1, 4, 16, 32].map(|functions| Plan { functions, ..largest() }));
+    grown.extend([1, 8, 16, 32].map(|loops| Plan { loops, deep: true, ..largest() }));
+    for plan in grown {
+        let subject = subject("", &plan, |_| true);
+        let Counts { functions, vertices, edges, loops } = subject.problem.counts();
+        let nested = if plan.deep { ", each in the one before" } else { "" };
+        let (read, interference, bound) = (cell(read(&subject)), cell(interference(&subject)), cell(bound(&subject)));
+        println!("| {functions} | {vertices} | {edges} | {loops}{nested} | {read} | {interference} | {bound} |");
+    }
+}

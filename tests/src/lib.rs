@@ -1,0 +1,13 @@
+//! What the tests and the benchmark share: seeded problems, layouts and walks, lawful and damaged.
+
+pub mod damage;
+pub mod layouts;
+pub mod lent;
+pub mod problems;
+pub mod random;
+pub mod walks;
+
+/// How many times the usual number of cases to try: the variable CASES, or 1.
+pub fn effort() -> usize {
+    std::env::var("CASES").ok().and_then(|text| text.parse().ok()).unwrap_or(1)
+}

@@ -1,0 +1,258 @@
+//! Random problems that pass every check of Read.
+
+use std::collections::BTreeSet;
+
+use reference::problem::*;
+
+use crate::random::Random;
+
+/// From which values costs and sizes are drawn.
+#[derive(Clone, Copy, Debug, PartialEq, Eq)]
+pub enum Amounts {
+    /// Up to 20.
+    Small,
+    /// Over the whole range.
+    Any,
+    /// The least and the greatest value of the range.
+    Ends,
+}
+
+/// What a problem should look like.
+#[derive(Clone, Debug)]
+pub struct Plan {
+    /// Functions.
+    pub functions: usize,
+    /// Vertices.
+    pub vertices: usize,
+    /// Edges; there may be fewer where the graph has no room for them, and more where the rules need them.
+    pub edges: usize,
+    /// Loops; there may be fewer where the graph has no room for them.
+    pub loops: usize,
+    /// Loop bounds are drawn from these.
+    pub bounds: Vec<u32>,
+    /// Own costs and load costs.
+    pub costs: Amounts,
+    /// Function sizes.
+    pub sizes: Amounts,
+    /// How many loops in a hundred are to have no way out.
+    pub dead: u64,
+    /// Loops that hold one another, as deep as there are loops.
+    pub deep: bool,
+    /// The first loop holds all vertices but the first and the last, if there are others.
+    pub around: bool,
+}
+
+impl Plan {
+    /// A random plan of at most so many vertices.
+    pub fn small(random: &mut Random, most: usize) -> Plan {
+        let vertices = random.count(1..=most);
+        let amounts = [Amounts::Small, Amounts::Small, Amounts::Any, Amounts::Ends];
+        let bounds = [vec![1], vec![1, 2], vec![1, 2, 3], vec![1, 2, 3, 5], vec![4]];
+        Plan {
+            functions: random.count(1..=5),
+            vertices,
+            edges: random.count(0..=vertices * 3),
+            loops: random.count(0..=vertices.min(5)),
+            bounds: random.pick(&bounds).clone(),
+            costs: *random.pick(&amounts),
+            sizes: Amounts::Small,
+            dead: if random.percent(30) { 40 } else { 0 },
+            deep: random.percent(15),
+            around: random.percent(10),
+        }
+    }
+
+    /// A random plan of any size.
+    pub fn medium(random: &mut Random) -> Plan {
+        let vertices = random.count(2..=MOST_VERTICES);
+        let bounds = [vec![1], vec![1, 2, 3], vec![1, 7, 100], vec![MOST_VISITS], vec![1, MOST_VISITS]];
+        Plan {
+            functions: random.count(1..=MOST_FUNCTIONS),
+            vertices,
+            edges: random.count(0..=MOST_EDGES),
+            loops: random.count(0..=MOST_LOOPS),
+            bounds: random.pick(&bounds).clone(),
+            costs: *random.pick(&[Amounts::Small, Amounts::Any, Amounts::Ends]),
+            sizes: *random.pick(&[Amounts::Small, Amounts::Small, Amounts::Any, Amounts::Ends]),
+            dead: if random.percent(30) { 30 } else { 0 },
+            deep: random.percent(20),
+            around: random.percent(20),
+        }
+    }
+
+    /// A random plan with every count at its greatest.
+    pub fn largest(random: &mut Random) -> Plan {
+        Plan {
+            functions: MOST_FUNCTIONS,
+            vertices: MOST_VERTICES,
+            edges: MOST_EDGES,
+            loops: MOST_LOOPS,
+            dead: if random.percent(25) { 20 } else { 0 },
+            ..Plan::medium(random)
+        }
+    }
+}
+
+/// The ranges of the loops of a graph in the making.
+struct Nest {
+    vertices: usize,
+    loops: Vec<(usize, usize)>,
+    dead: Vec<bool>,
+}
+
+impl Nest {
+    fn random(random: &mut Random, plan: &Plan) -> Nest {
+        let vertices = plan.vertices;
+        let wanted = plan.loops.min(vertices - 1);
+        let around = plan.around && vertices > 2 && wanted > 0;
+        let outermost = if around { Some((1, vertices - 2)) } else { None };
+        let mut loops =
+            if plan.deep { Nest::deep(random, vertices, wanted, outermost) } else { Nest::broad(random, vertices, wanted, outermost) };
+        loops.sort_unstable();
+        // what follows a loop without a way out is reached from before it, so vertex 0 heads none
+        let dead = loops.iter().map(|&(header, _)| header > 0 && random.percent(plan.dead)).collect();
+        Nest { vertices, loops, dead }
+    }
+
+    /// Each range inside the one before.
+    fn deep(random: &mut Random, vertices: usize, wanted: usize, outermost: Option<(usize, usize)>) -> Vec<(usize, usize)> {
+        let mut headers: Vec<usize> = (outermost.map_or(0, |(header, _)| header + 1)..vertices - 1).collect();
+        random.shuffle(&mut headers);
+        headers.truncate(wanted - outermost.map_or(0, |_| 1));
+        headers.sort_unstable();
+        let innermost = headers.last().copied().unwrap_or(0);
+        let mut lasts: Vec<usize> = headers.iter().map(|_| random.count(innermost..=vertices - 2)).collect();
+        lasts.sort_unstable();
+        outermost.into_iter().chain(headers.into_iter().zip(lasts.into_iter().rev())).collect()
+    }
+
+    /// Ranges as they come, where they fit in with those before; single vertices once that has failed often.
+    fn broad(random: &mut Random, vertices: usize, wanted: usize, outermost: Option<(usize, usize)>) -> Vec<(usize, usize)> {
+        let mut loops: Vec<(usize, usize)> = outermost.into_iter().collect();
+        let mut tries = 0;
+        while loops.len() < wanted {
+            tries += 1;
+            let header = random.count(0..=vertices - 2);
+            let last = if tries < 200 { random.count(header..=vertices - 2) } else { header };
+            let fits = |&(h, l): &(usize, usize)| {
+                let nested = (header < h && l <= last) || (h < header && last <= l);
+                let disjoint = l < header || last < h;
+                nested || disjoint
+            };
+            if loops.iter().all(fits) {
+                loops.push((header, last));
+            }
+        }
+        loops
+    }
+
+    /// Whether the rules allow an edge, and no dead loop is left by it.
+    fn allows(&self, from: usize, to: usize) -> bool {
+        let holds = |&(header, last): &(usize, usize), v: usize| header <= v && v <= last;
+        let enters_well = self.loops.iter().all(|l| holds(l, from) || !holds(l, to) || l.0 == to);
+        let returns_well = to > from || self.loops.iter().any(|l| l.0 == to && holds(l, from));
+        let leaves_well = self.loops.iter().zip(&self.dead).all(|(l, &dead)| !dead || !holds(l, from) || holds(l, to));
+        from != self.vertices - 1 && enters_well && returns_well && leaves_well
+    }
+
+    fn random_edges(&self, random: &mut Random, wanted: usize) -> Vec<(usize, usize)> {
+        let n = self.vertices;
+        let mut allowed: Vec<(usize, usize)> =
+            (0..n).flat_map(|u| (0..n).map(move |v| (u, v))).filter(|&(u, v)| self.allows(u, v)).collect();
+        // what each vertex and each loop must have
+        let mut needs: Vec<Vec<(usize, usize)>> = Vec::new();
+        needs.extend((1..n).map(|vertex| (0..vertex).map(|u| (u, vertex)).collect()));
+        needs.extend(self.loops.iter().map(|&(header, last)| (header..=last).map(|u| (u, header)).collect()));
+        needs.extend((0..n - 1).map(|vertex| (0..n).map(|v| (vertex, v)).collect()));
+        let mut edges = BTreeSet::new();
+        for mut choices in needs {
+            if !choices.iter().any(|edge| edges.contains(edge)) {
+                choices.retain(|&(u, v)| self.allows(u, v));
+                edges.insert(*random.pick(&choices));
+            }
+        }
+        random.shuffle(&mut allowed);
+        for edge in allowed {
+            if edges.len() >= wanted {
+                break;
+            }
+            edges.insert(edge);
+        }
+        edges.into_iter().collect()
+    }
+}
+
+fn amount(random: &mut Random, least: u32, of: Amounts) -> u32 {
+    match of {
+        Amounts::Small => random.field(least..=20),
+        Amounts::Any => random.field(least..=MOST_SIZE),
+        Amounts::Ends => *random.pick(&[least, MOST_SIZE]),
+    }
+}
+
+/// A lawful problem after a plan, with the greatest scratchpad.
+pub fn lawful(random: &mut Random, plan: &Plan) -> Problem {
+    let nest = Nest::random(random, plan);
+    let edges = nest.random_edges(random, plan.edges);
+    // now and then few of the functions are used, so that others have no vertex
+    let used = if random.percent(20) { random.count(1..=plan.functions) } else { plan.functions };
+    Problem {
+        scratchpad: MOST_SIZE,
+        functions: (0..plan.functions)
+            .map(|_| Function { size: amount(random, 1, plan.sizes), load: amount(random, 0, plan.costs) })
+            .collect(),
+        vertices: (0..plan.vertices)
+            .map(|_| Vertex { function: random.count(0..=used - 1) as u32, cost: amount(random, 0, plan.costs) })
+            .collect(),
+        edges: edges.into_iter().map(|(from, to)| Edge { from: from as u32, to: to as u32 }).collect(),
+        loops: nest
+            .loops
+            .iter()
+            .map(|&(header, last)| Loop { header: header as u32, last: last as u32, bound: *random.pick(&plan.bounds) })
+            .collect(),
+    }
+}
+
+/// A problem with every count at its greatest, whose numbers are as long as their ranges allow: its file is the longest there is.
+pub fn longest(random: &mut Random) -> Problem {
+    loop {
+        let plan = Plan { dead: 0, ..Plan::largest(random) };
+        let mut problem = lawful(random, &plan);
+        if problem.edges.len() == MOST_EDGES {
+            problem.functions.fill(Function { size: MOST_SIZE, load: MOST_SIZE });
+            problem.vertices.iter_mut().for_each(|vertex| vertex.cost = MOST_SIZE);
+            problem.loops.iter_mut().for_each(|l| l.bound = MOST_VISITS);
+            return problem;
+        }
+    }
+}
+
+/// A problem whose greatest visit charges under the empty layout are exactly `total` and whose one function has a load cost of
+/// `load`: nests of three, two and one loops of 65,535 visits, and a vertex outside all loops, each as often as it goes into the rest.
+pub fn with_total(total: u64, load: u32) -> Problem {
+    let mut vertices = Vec::new();
+    let mut edges = Vec::new();
+    let mut loops = Vec::new();
+    let mut rest = total;
+    for depth in (0..=3u32).rev() {
+        let visits = u64::from(MOST_VISITS).pow(depth);
+        let cost = (rest / visits).min(u64::from(MOST_SIZE));
+        rest -= cost * visits;
+        // headers without cost around the vertex that has it, which is the header of the innermost
+        let first = vertices.len() as u32;
+        let last = first + depth.saturating_sub(1);
+        for header in first..=last {
+            vertices.push(Vertex { function: 0, cost: if header == last { cost as u32 } else { 0 } });
+            edges.push(Edge { from: header, to: header + 1 });
+            if depth > 0 {
+                loops.push(Loop { header, last, bound: MOST_VISITS });
+                edges.push(Edge { from: last, to: header });
+            }
+        }
+    }
+    assert_eq!(rest, 0, "the rest is below 65,535 after each nest");
+    // the last vertex is outside all loops and has no edge out
+    edges.retain(|edge| (edge.from as usize) < vertices.len() - 1);
+    edges.sort_unstable();
+    Problem { scratchpad: MOST_SIZE, functions: vec![Function { size: 1, load }], vertices, edges, loops }
+}

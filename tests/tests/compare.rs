@@ -1,0 +1,747 @@
+//! The library held to the independent implementation on seeded problems, layouts and walks, lawful and damaged.
+//!
+//! Each call goes through the exports themselves, with guards around all lent memory, and through the safe wrapper. The returned
+//! number, the place, the results and every byte of lent memory, guards and inputs included, must be what document 01 says.
+//! It prints what it compared; it fails at the first difference, and where some refusal was never met.
+//!
+//! CASES=10 in the environment tries ten times as many cases.
+
+use std::collections::BTreeMap;
+use std::panic::{catch_unwind, AssertUnwindSafe};
+use std::process::exit;
+use std::time::Instant;
+
+use examiner_tests::damage::*;
+use examiner_tests::lent::Lent;
+use examiner_tests::problems::{lawful, longest, with_total, Amounts, Plan};
+use examiner_tests::random::Random;
+use examiner_tests::{effort, layouts, walks};
+use reference::examples::{p, q, r, M10};
+use reference::problem::*;
+
+/// Calls both implementations and counts.
+struct Comparison {
+    random: Random,
+    /// Calls of each export.
+    calls: BTreeMap<&'static str, usize>,
+    /// Refusals by number; at 0 the calls that were not refused.
+    met: [usize; 18],
+    /// Cases worth counting.
+    seen: BTreeMap<&'static str, usize>,
+    /// What was asked last, to be shown where the two differ.
+    asked: Asked,
+}
+
+/// The inputs of a call, in a form to print.
+#[derive(Default)]
+struct Asked {
+    file: Vec<u8>,
+    layout: Vec<u8>,
+    walk: Vec<u32>,
+    fields: Vec<u32>,
+}
+
+impl Asked {
+    fn show(&self) {
+        eprintln!("file    {:02X?}", self.file);
+        eprintln!("layout  {:?}", self.layout);
+        eprintln!("walk    {} entries, the first of them {:?}", self.walk.len(), &self.walk[..self.walk.len().min(500)]);
+        eprintln!("fields  {:?}", self.fields);
+    }
+}
+
+/// What a call answers: the values in the order of `answer`, or the refusal.
+type Expected = Result<Vec<u64>, Refusal>;
+
+/// A result of the wrapper in the form of the independent implementation.
+fn plain<T>(result: Result<T, examiner::Refusal>) -> Result<T, Refusal> {
+    result.map_err(|refusal| Refusal { number: refusal.number.number() as u8, place: refusal.place })
+}
+
+impl Comparison {
+    fn new() -> Comparison {
+        Comparison { random: Random::seeded(0), calls: BTreeMap::new(), met: [0; 18], seen: BTreeMap::new(), asked: Asked::default() }
+    }
+
+    fn saw(&mut self, what: &'static str, it: bool) {
+        *self.seen.entry(what).or_insert(0) += usize::from(it);
+    }
+
+    /// Makes one call with a guarded `answer`, and holds the returned number and all of `answer` to what is expected.
+    fn call(&mut self, export: &'static str, expected: &Expected, call: impl FnOnce(*mut u64) -> u32) {
+        let mut answer = Lent::random(&mut self.random, 4);
+        let mut wanted = answer.clone();
+        let number = match expected {
+            Ok(values) => {
+                wanted.part_mut()[..values.len()].copy_from_slice(values);
+                0
+            }
+            Err(refusal) => {
+                wanted.part_mut()[0] = refusal.place;
+                u32::from(refusal.number)
+            }
+        };
+        let returned = call(answer.part_mut().as_mut_ptr());
+        assert_eq!((returned, &answer), (number, &wanted), "{export} returned the left, expected was {expected:?}");
+        *self.calls.entry(export).or_insert(0) += 1;
+        self.met[number as usize] += 1;
+    }
+
+    fn read(&mut self, file: &[u8]) {
+        self.asked = Asked { file: file.to_vec(), ..Asked::default() };
+        let lent = Lent::holding(&mut self.random, file);
+        let before = lent.clone();
+        let expected = reference::read(file).map(|problem| {
+            let Counts { functions, vertices, edges, loops } = problem.counts();
+            [functions, vertices, edges, loops].map(u64::from).to_vec()
+        });
+        let part = lent.part();
+        // SAFETY: the part and the answer are valid for the call, and apart.
+        self.call("examiner_read", &expected, |answer| unsafe { examiner::raw::examiner_read(part.as_ptr(), part.len(), answer) });
+        let wrapped = plain(examiner::read(part)).map(|c| [c.functions, c.vertices, c.edges, c.loops].map(|count| count as u64).to_vec());
+        assert_eq!(wrapped, expected);
+        assert_eq!(lent, before);
+    }
+
+    fn write(&mut self, file: &[u8], length: usize) {
+        self.asked = Asked { file: file.to_vec(), ..Asked::default() };
+        let lent = Lent::holding(&mut self.random, file);
+        let before = lent.clone();
+        let mut out = Lent::random(&mut self.random, length);
+        let mut wrapper_out = out.clone();
+        let mut wanted = out.clone();
+        let written = reference::write(file, wanted.part_mut());
+        let (part, room) = (lent.part(), out.part_mut());
+        // SAFETY: the parts and the answer are valid for the call, and apart.
+        self.call("examiner_write", &written.map(|bytes| vec![bytes as u64]), |answer| unsafe {
+            examiner::raw::examiner_write(part.as_ptr(), part.len(), room.as_mut_ptr(), room.len(), answer)
+        });
+        assert_eq!(plain(examiner::write(part, wrapper_out.part_mut())), written);
+        assert_eq!((&out, &wrapper_out, &lent), (&wanted, &wanted, &before));
+        if let Ok(bytes) = written {
+            assert_eq!(&out.part()[..bytes], file, "an accepted file comes back byte for byte");
+        }
+    }
+
+    fn write_fields(&mut self, fields: &[u32; FIELDS], length: usize) {
+        self.asked = Asked { fields: fields.to_vec(), ..Asked::default() };
+        let lent = Lent::holding(&mut self.random, fields);
+        let before = lent.clone();
+        let mut out = Lent::random(&mut self.random, length);
+        let mut wrapper_out = out.clone();
+        let mut wanted = out.clone();
+        let written = reference::write_fields(fields, wanted.part_mut());
+        let (part, room) = (lent.part(), out.part_mut());
+        // SAFETY: `part` has 1,445 places; all are valid for the call, and apart.
+        self.call("examiner_write_fields", &written.map(|bytes| vec![bytes as u64]), |answer| unsafe {
+            examiner::raw::examiner_write_fields(part.as_ptr(), room.as_mut_ptr(), room.len(), answer)
+        });
+        assert_eq!(plain(examiner::write_fields(&wrapped_fields(fields), wrapper_out.part_mut())), written);
+        assert_eq!((&out, &wrapper_out, &lent), (&wanted, &wanted, &before));
+    }
+
+    #[cfg(feature = "interference")]
+    fn interference(&mut self, file: &[u8], length: usize) {
+        self.asked = Asked { file: file.to_vec(), ..Asked::default() };
+        let lent = Lent::holding(&mut self.random, file);
+        let before = lent.clone();
+        let mut words = Lent::random(&mut self.random, length);
+        let mut wrapper_words = words.clone();
+        let mut wanted = words.clone();
+        let filled = reference::interference(file, wanted.part_mut());
+        let (part, room) = (lent.part(), words.part_mut());
+        // SAFETY: the parts and the answer are valid for the call, and apart.
+        self.call("examiner_interference", &filled.map(|words| vec![words as u64]), |answer| unsafe {
+            examiner::raw::examiner_interference(part.as_ptr(), part.len(), room.as_mut_ptr(), room.len(), answer)
+        });
+        assert_eq!(plain(examiner::interference(part, wrapper_words.part_mut())), filled);
+        assert_eq!((&words, &wrapper_words, &lent), (&wanted, &wanted, &before));
+    }
+
+    #[cfg(feature = "bound")]
+    fn bound(&mut self, file: &[u8], layout: &[u8]) -> Option<u64> {
+        self.asked = Asked { file: file.to_vec(), layout: layout.to_vec(), ..Asked::default() };
+        let (lent, lent_layout) = (Lent::holding(&mut self.random, file), Lent::holding(&mut self.random, layout));
+        let before = (lent.clone(), lent_layout.clone());
+        let bound = reference::bound(file, layout);
+        let expected = bound.map(|b| vec![b.need, b.contested, b.first_loads, b.bound]);
+        let (part, regions) = (lent.part(), lent_layout.part());
+        // SAFETY: the parts and the answer are valid for the call, and apart.
+        self.call("examiner_bound", &expected, |answer| unsafe {
+            examiner::raw::examiner_bound(part.as_ptr(), part.len(), regions.as_ptr(), regions.len(), answer)
+        });
+        let wrapped = plain(examiner::bound(part, regions));
+        assert_eq!(wrapped.map(|b| vec![b.need, b.contested, b.first_loads, b.bound]), expected);
+        assert_eq!((lent, lent_layout), before);
+        if let Ok(bound) = bound {
+            self.saw("a contested vertex", bound.contested > 0);
+            self.saw("no contested vertex", bound.contested == 0);
+            self.saw("first loads", bound.first_loads > 0);
+            self.saw("a bound above 2^53", bound.bound > 1 << 53);
+        }
+        bound.ok().map(|bound| bound.bound)
+    }
+
+    #[cfg(feature = "run")]
+    fn run(&mut self, file: &[u8], layout: &[u8], walk: &[u32]) -> Option<u64> {
+        self.asked = Asked { file: file.to_vec(), layout: layout.to_vec(), walk: walk.to_vec(), ..Asked::default() };
+        let (lent, lent_layout) = (Lent::holding(&mut self.random, file), Lent::holding(&mut self.random, layout));
+        let lent_walk = Lent::holding(&mut self.random, walk);
+        let before = (lent.clone(), lent_layout.clone(), lent_walk.clone());
+        let run = reference::run(file, layout, walk);
+        let mut held = Lent::random(&mut self.random, REGIONS);
+        let mut wanted = held.clone();
+        if let Ok(run) = &run {
+            wanted.part_mut().copy_from_slice(&run.held);
+        }
+        let expected = run.as_ref().map(|run| vec![run.cycles, run.loads]).map_err(|refusal| *refusal);
+        let (part, regions, entries, held_part) = (lent.part(), lent_layout.part(), lent_walk.part(), held.part_mut());
+        // SAFETY: the parts, `held` with its 32 places and the answer are valid for the call, and apart.
+        self.call("examiner_run", &expected, |answer| unsafe {
+            examiner::raw::examiner_run(
+                part.as_ptr(),
+                part.len(),
+                regions.as_ptr(),
+                regions.len(),
+                entries.as_ptr(),
+                entries.len(),
+                held_part.as_mut_ptr(),
+                answer,
+            )
+        });
+        assert_eq!(held, wanted);
+        let wrapped = plain(examiner::run(part, regions, entries));
+        let held_after = |held: [Option<u8>; 32]| held.map(|function| function.unwrap_or(255));
+        assert_eq!(wrapped.map(|w| (w.cycles, w.loads, held_after(w.held))), run.clone().map(|r| (r.cycles, r.loads, r.held)));
+        assert_eq!((lent, lent_layout, lent_walk), before);
+        self.saw("a lawful walk with a load of cost 0", run.as_ref().is_ok_and(|run| run.loads > 0 && run.cycles == 0));
+        run.ok().map(|run| run.cycles)
+    }
+
+    #[cfg(not(feature = "interference"))]
+    fn interference(&mut self, _: &[u8], _: usize) {}
+
+    #[cfg(not(feature = "bound"))]
+    fn bound(&mut self, _: &[u8], _: &[u8]) -> Option<u64> {
+        None
+    }
+
+    #[cfg(not(feature = "run"))]
+    fn run(&mut self, _: &[u8], _: &[u8], _: &[u32]) -> Option<u64> {
+        None
+    }
+
+    /// Bound and Run with one layout and one walk. Where both give their results, no run is longer than the bound.
+    fn layout_and_walk(&mut self, file: &[u8], layout: &[u8], walk: &[u32]) {
+        if let (Some(bound), Some(cycles)) = (self.bound(file, layout), self.run(file, layout, walk)) {
+            assert!(cycles <= bound, "a run of {cycles} cycles passes the bound {bound}");
+            self.saw("a run within its bound", cycles < bound);
+            self.saw("a run that takes all of its bound", cycles == bound);
+        }
+    }
+
+    /// Every operation on one file that need not be lawful.
+    fn file(&mut self, file: &[u8]) {
+        self.read(file);
+        let length = match self.random.count(0..=3) {
+            0 => self.random.count(0..=file.len()),
+            1 => file.len(),
+            _ => file.len() + self.random.count(0..=9),
+        };
+        self.write(file, length);
+        let words = reference::read(file).map_or(9, |problem| problem.vertices.len() * problem.functions.len());
+        let length = match self.random.count(0..=3) {
+            0 => self.random.count(0..=words),
+            1 => words,
+            _ => words + self.random.count(0..=9),
+        };
+        self.interference(file, length);
+    }
+
+    /// Every operation on one problem that need not be lawful, and random layouts and walks.
+    fn problem(&mut self, problem: &Problem) {
+        let file = file_of(problem);
+        self.file(&file);
+        self.record(problem);
+        let layout = layouts::any(&mut self.random, problem.functions.len());
+        self.layout_and_walk(&file, &layout, &[0]);
+    }
+
+    /// The problem as a record, if it has places for all items.
+    fn record(&mut self, problem: &Problem) {
+        let Counts { functions, vertices, edges, loops } = problem.counts();
+        if functions > 32 || vertices > 128 || edges > 512 || loops > 32 {
+            return;
+        }
+        let mut fields = problem.to_fields();
+        if self.random.percent(70) {
+            fill_spare_places(&mut self.random, &mut fields);
+        }
+        let needed = file_of(problem).len();
+        let length = if self.random.percent(25) { self.random.count(0..=needed) } else { needed + self.random.count(0..=9) };
+        self.write_fields(&fields, length);
+    }
+
+    /// A lawful problem with several layouts and walks, lawful and broken.
+    fn lawful_problem(&mut self, plan: &Plan, most: usize) {
+        let mut problem = lawful(&mut self.random, plan);
+        let functions = problem.functions.len();
+        let layout = layouts::lawful(&mut self.random, functions);
+        layouts::fit_scratchpad(&mut self.random, &mut problem, &layout);
+        let file = file_of(&problem);
+        self.saw("all counts at their greatest", problem.counts() == Counts { functions: 32, vertices: 128, edges: 512, loops: 32 });
+        let is_dead = |l: &Loop| !problem.edges.iter().any(|e| l.holds(e.from) && !l.holds(e.to));
+        self.saw("a dead loop", problem.loops.iter().any(is_dead));
+        self.saw("a loop of bound 1", problem.loops.iter().any(|l| l.bound == 1));
+        self.file(&file);
+        self.record(&problem);
+        for turn in 0..3 {
+            let layout = if turn == 0 { layout.clone() } else { layouts::any(&mut self.random, functions) };
+            let length = self.random.count(1..=most);
+            let walk = if self.random.percent(15) {
+                walks::roaming(&mut self.random, &problem, length)
+            } else {
+                walks::wandering(&mut self.random, &problem, length, 2 * most + 200)
+            };
+            self.layout_and_walk(&file, &layout, &walk);
+            let damage = self.random.field(0..=walks::DAMAGES - 1);
+            let broken = walks::damaged(&mut self.random, &problem, &walk, damage);
+            self.layout_and_walk(&file, &layout, &broken);
+        }
+    }
+}
+
+/// A record in the wrapper's form.
+fn wrapped_fields(fields: &[u32; FIELDS]) -> examiner::Fields {
+    use examiner::{Edge, Fields, Function, Loop, Vertex};
+    let pair = |place: usize, item: usize| (fields[place + 2 * item], fields[place + 2 * item + 1]);
+    let mut wrapped = Fields {
+        scratchpad: fields[0],
+        function_count: fields[1],
+        vertex_count: fields[66],
+        edge_count: fields[323],
+        loop_count: fields[1348],
+        ..Fields::default()
+    };
+    for (item, function) in wrapped.functions.iter_mut().enumerate() {
+        let (size, load) = pair(2, item);
+        *function = Function { size, load };
+    }
+    for (item, vertex) in wrapped.vertices.iter_mut().enumerate() {
+        let (function, cost) = pair(67, item);
+        *vertex = Vertex { function, cost };
+    }
+    for (item, edge) in wrapped.edges.iter_mut().enumerate() {
+        let (from, to) = pair(324, item);
+        *edge = Edge { from, to };
+    }
+    for (item, l) in wrapped.loops.iter_mut().enumerate() {
+        let place = 1349 + 3 * item;
+        *l = Loop { header: fields[place], last: fields[place + 1], bound: fields[place + 2] };
+    }
+    wrapped
+}
+
+fn small_lawful_problems(c: &mut Comparison) {
+    for _ in 0..10_000 * effort() {
+        let plan = Plan::small(&mut c.random, 14);
+        c.lawful_problem(&plan, 60);
+    }
+}
+
+fn problems_of_any_size(c: &mut Comparison) {
+    for _ in 0..1_500 * effort() {
+        let plan = Plan::medium(&mut c.random);
+        c.lawful_problem(&plan, 400);
+    }
+}
+
+fn problems_at_every_greatest_count(c: &mut Comparison) {
+    for _ in 0..300 * effort() {
+        let plan = Plan::largest(&mut c.random);
+        c.lawful_problem(&plan, 2_000);
+    }
+}
+
+fn damaged_bytes(c: &mut Comparison) {
+    for case in 0..30_000 * effort() {
+        let plan = match case % 40 {
+            0 => Plan::largest(&mut c.random),
+            1 | 2 => Plan::medium(&mut c.random),
+            _ => Plan::small(&mut c.random, 10),
+        };
+        let problem = lawful(&mut c.random, &plan);
+        let file = damaged_file(&mut c.random, &problem, case as u32 % FILE_DAMAGES);
+        c.file(&file);
+        let layout = layouts::any(&mut c.random, plan.functions);
+        c.layout_and_walk(&file, &layout, &[0]);
+    }
+}
+
+fn every_cut(c: &mut Comparison) {
+    let mut problems = vec![p(), q(), r(), with_total(MOST_BOUND, 0)];
+    let plan = Plan { sizes: Amounts::Any, costs: Amounts::Any, ..Plan::small(&mut c.random, 14) };
+    problems.push(lawful(&mut c.random, &plan));
+    let plan = Plan::largest(&mut c.random);
+    problems.push(lawful(&mut c.random, &plan));
+    for problem in problems {
+        let file = file_of(&problem);
+        for length in 0..=file.len() {
+            c.read(&file[..length]);
+            c.write(&file[..length], file.len());
+        }
+    }
+}
+
+fn every_value_of_every_byte(c: &mut Comparison) {
+    for file in [M10.to_vec(), file_of(&p()), file_of(&q()), file_of(&r())] {
+        for at in 0..file.len() {
+            for value in 0..=255 {
+                let mut file = file.clone();
+                file[at] = value;
+                c.read(&file);
+                c.layout_and_walk(&file, &[0], &[0]);
+            }
+        }
+    }
+}
+
+fn broken_rules(c: &mut Comparison) {
+    for case in 0..30_000 * effort() {
+        let plan = match case % 50 {
+            0 => Plan::largest(&mut c.random),
+            1 | 2 => Plan::medium(&mut c.random),
+            _ => Plan::small(&mut c.random, 12),
+        };
+        let problem = lawful(&mut c.random, &plan);
+        let damaged = damaged_problem(&mut c.random, &problem, case as u32 % PROBLEM_DAMAGES);
+        c.problem(&damaged);
+    }
+}
+
+fn damaged_records(c: &mut Comparison) {
+    for case in 0..20_000 * effort() {
+        let plan = if case % 10 == 0 { Plan::medium(&mut c.random) } else { Plan::small(&mut c.random, 12) };
+        let problem = lawful(&mut c.random, &plan);
+        let mut fields = problem.to_fields();
+        fill_spare_places(&mut c.random, &mut fields);
+        for _ in 0..c.random.count(1..=2) {
+            damage_fields(&mut c.random, &mut fields);
+        }
+        let length = c.random.count(0..=300);
+        c.write_fields(&fields, length);
+    }
+    for _ in 0..500 {
+        let mut fields = [0; FIELDS];
+        fields.iter_mut().for_each(|field| *field = c.random.field(0..=4));
+        c.write_fields(&fields, 100);
+        fields.iter_mut().for_each(|field| *field = c.random.any() as u32);
+        c.write_fields(&fields, 100);
+    }
+}
+
+/// Graphs of a few vertices with random edges and loops, few of them lawful.
+fn any_small_graph(c: &mut Comparison) {
+    for _ in 0..20_000 * effort() {
+        let vertices = c.random.field(1..=6);
+        let last = vertices - 1;
+        let mut edges = Vec::new();
+        for from in 0..vertices {
+            for to in 0..vertices {
+                let share = if to == from + 1 { 85 } else { 12 };
+                if c.random.percent(share) {
+                    edges.push(Edge { from, to });
+                }
+            }
+        }
+        let mut loops = Vec::new();
+        for header in 0..vertices {
+            if c.random.percent(25) {
+                loops.push(Loop { header, last: c.random.field(header..=last), bound: c.random.field(1..=3) });
+            }
+        }
+        let functions = vec![Function { size: 1, load: 7 }, Function { size: 2, load: 100 }];
+        let vertices = (0..vertices).map(|_| Vertex { function: c.random.field(0..=1), cost: c.random.field(0..=9) }).collect();
+        let problem = Problem { scratchpad: 3, functions, vertices, edges, loops };
+        c.saw("a random graph that is lawful", reference::graph::check(&problem).is_ok());
+        c.problem(&problem);
+    }
+}
+
+/// Bounds at and past the limit, and what must not count towards it.
+fn limits(c: &mut Comparison) {
+    let totals =
+        [0, 1, MOST_BOUND / 2, MOST_BOUND - 40, MOST_BOUND - 1, MOST_BOUND, MOST_BOUND + 1, MOST_BOUND + 40, 4_000_000_000_000_000_000];
+    for total in totals {
+        for load in [0, 1, 39, 40, 41, MOST_SIZE] {
+            let problem = with_total(total, load);
+            let expected = total.checked_add(u64::from(load)).filter(|&bound| bound <= MOST_BOUND);
+            assert_eq!(reference::bound(&file_of(&problem), &[]).ok().map(|bound| bound.bound), expected);
+            c.saw("a bound of exactly the limit", expected == Some(MOST_BOUND));
+            c.saw("first loads that pass the limit", total <= MOST_BOUND && expected.is_none());
+            c.layout_and_walk(&file_of(&problem), &[], &[0]);
+        }
+    }
+    for (bound, dead) in [(1, false), (2, false), (1, true), (MOST_VISITS, true)] {
+        let problem = detour(bound, dead);
+        let file = file_of(&problem);
+        assert_eq!(reference::bound(&file, &[]).is_ok(), bound == 1 || dead);
+        c.saw("a huge iteration that no lawful walk takes", bound == 1 && !dead);
+        c.saw("a huge loop without a way out", dead);
+        c.file(&file);
+        c.layout_and_walk(&file, &[], &[0, 1, 7]);
+        c.layout_and_walk(&file, &[], &[0, 1, 2]);
+    }
+    for depth in 1..=32 {
+        let problem = deepest(depth);
+        let file = file_of(&problem);
+        c.saw("nested 32 deep", depth == 32);
+        c.file(&file);
+        let straight: Vec<u32> = (0..=depth + 1).collect();
+        c.layout_and_walk(&file, &[], &straight);
+        c.layout_and_walk(&file, &[0, 1], &straight);
+    }
+}
+
+/// The longest lawful file, spoilt near its end, and input that is far longer.
+fn long_files(c: &mut Comparison) {
+    for _ in 0..5 {
+        let problem = longest(&mut c.random);
+        let file = file_of(&problem);
+        assert_eq!(file.len(), 2_091);
+        c.problem(&problem);
+        let mut last_bound = file[..2_088].to_vec();
+        last_bound.extend([0xFF, 0xFF, 0xFF, 0xFF, 0x10]);
+        assert_eq!(reference::read(&last_bound), Err(Refusal { number: 2, place: 2_088 }));
+        c.file(&last_bound);
+        for more in [1, 2, 5, 10_000, 100_000] {
+            let longer = [file.clone(), c.random.bytes(more)].concat();
+            c.read(&longer);
+            c.write(&longer, 3_000);
+        }
+        for byte in [0x00, 0x01, 0x7F, 0x80, 0xFF] {
+            c.file(&vec![byte; 100_000]);
+        }
+    }
+}
+
+/// Vertex 1 heads a loop that is left from there; inside it lies a nest worth more than the limit, from which the only way leads back
+/// to vertex 1, or, dead, nowhere.
+fn detour(bound: u32, dead: bool) -> Problem {
+    let edge = |from, to| Edge { from, to };
+    let mut edges = vec![
+        edge(0, 1),
+        edge(1, 2),
+        edge(1, 7),
+        edge(2, 3),
+        edge(3, 4),
+        edge(4, 5),
+        edge(5, 2),
+        edge(5, 3),
+        edge(5, 4),
+        edge(5, 5),
+        edge(5, 6),
+        edge(6, 1),
+    ];
+    let mut loops: Vec<Loop> = (2..=5).map(|header| Loop { header, last: 5, bound: MOST_VISITS }).collect();
+    if dead {
+        edges.retain(|e| e.from != 5 || e.to <= 5);
+        edges.push(edge(1, 6));
+        loops.insert(0, Loop { header: 1, last: 6, bound: 1 });
+    } else {
+        loops.insert(0, Loop { header: 1, last: 6, bound });
+    }
+    edges.sort_unstable();
+    let vertices = (0..8).map(|v| Vertex { function: v % 2, cost: MOST_SIZE }).collect();
+    Problem { scratchpad: 2, functions: vec![Function { size: 1, load: 3 }, Function { size: 1, load: MOST_SIZE }], vertices, edges, loops }
+}
+
+/// So many loops of the greatest bound, each inside the one before, all with a way out.
+fn deepest(depth: u32) -> Problem {
+    let mut edges: Vec<Edge> = (0..=depth).map(|v| Edge { from: v, to: v + 1 }).collect();
+    edges.extend((1..=depth).map(|header| Edge { from: depth, to: header }));
+    edges.sort_unstable();
+    let loops = (1..=depth).map(|header| Loop { header, last: depth, bound: MOST_VISITS }).collect();
+    let vertices = (0..=depth + 1).map(|v| Vertex { function: v % 2, cost: if v % 3 == 0 { MOST_SIZE } else { 0 } }).collect();
+    let functions = vec![Function { size: 1, load: 5 }, Function { size: 1, load: MOST_SIZE }];
+    Problem { scratchpad: 2, functions, vertices, edges, loops }
+}
+
+/// Every entry of some walks changed to every vertex and to unknown ones, and every beginning of them.
+fn every_entry_of_some_walks(c: &mut Comparison) {
+    let mut cases = vec![(p(), (0..7).collect()), (q(), vec![0, 2, 3]), (r(), vec![0, 1, 2, 1, 2, 1, 2, 1, 3])];
+    while cases.len() < 60 {
+        let plan = Plan { bounds: vec![1, 2, 3], ..Plan::small(&mut c.random, 8) };
+        let problem = lawful(&mut c.random, &plan);
+        if let Some(walk) = walks::lawful(&mut c.random, &problem, 12, 30) {
+            cases.push((problem, walk));
+        }
+    }
+    for (problem, walk) in cases {
+        let file = file_of(&problem);
+        let vertices = problem.vertices.len() as u32;
+        for position in 0..=walk.len() {
+            c.run(&file, &[0], &walk[..position]);
+            for entry in (0..vertices + 2).chain([127, 128, 255, 256, 65_536, u32::MAX]) {
+                let mut changed = walk.clone();
+                if position < walk.len() {
+                    changed[position] = entry;
+                } else {
+                    changed.push(entry);
+                }
+                c.run(&file, &[0], &changed);
+            }
+        }
+    }
+}
+
+/// Walks of exactly 1,000,000 entries, of one more, and broken near their ends.
+fn long_walks(c: &mut Comparison) {
+    // a loop of the greatest bound around a long chain, with a shorter loop and a short cut in it
+    let mut edges: Vec<Edge> = (0..31).map(|v| Edge { from: v, to: v + 1 }).collect();
+    edges.extend([(9, 2), (30, 1), (3, 5)].map(|(from, to)| Edge { from, to }));
+    edges.sort_unstable();
+    let problem = Problem {
+        scratchpad: MOST_SIZE,
+        functions: vec![Function { size: 3, load: MOST_SIZE }, Function { size: 4, load: 1 }, Function { size: 5, load: 9 }],
+        vertices: (0..32).map(|v| Vertex { function: v * v % 7 % 3, cost: MOST_SIZE }).collect(),
+        edges,
+        loops: vec![Loop { header: 1, last: 30, bound: MOST_VISITS }, Loop { header: 2, last: 9, bound: 20 }],
+    };
+    let file = file_of(&problem);
+    let walk = walks::of_length(&mut c.random, &problem, MOST_ENTRIES).expect("there are such walks");
+    for layout in [&[0, 1, 2][..], &[], &[0, 0, 1]] {
+        assert!(reference::run(&file, layout, &walk).is_ok());
+        c.saw("a lawful walk of 1,000,000 entries", true);
+        c.layout_and_walk(&file, layout, &walk);
+    }
+    let mut broken = walk.clone();
+    *broken.last_mut().expect("long") = 0;
+    c.layout_and_walk(&file, &[], &broken);
+    *broken.last_mut().expect("long") = 32;
+    c.layout_and_walk(&file, &[], &broken);
+    c.layout_and_walk(&file, &[], &walk[..MOST_ENTRIES - 1]);
+    let mut longer = walk;
+    longer.push(0);
+    c.layout_and_walk(&file, &[], &longer);
+    longer[0] = 77;
+    c.layout_and_walk(&file, &[], &longer);
+    longer.push(1);
+    c.layout_and_walk(&file, &[0, 1, 2], &longer);
+    // what comes before 17
+    c.layout_and_walk(&file, &[0, 1, 2, 3], &longer);
+    c.layout_and_walk(&file, &[0, 32, 2], &longer);
+    c.layout_and_walk(&file[1..], &[], &longer);
+
+    // the 65,536th visit in one stay
+    let mut longest_stay = r();
+    longest_stay.loops[0].bound = MOST_VISITS;
+    let file = file_of(&longest_stay);
+    let visits = |times: usize| [&[0], &[1, 2].repeat(times - 1)[..], &[1, 3]].concat();
+    assert!(reference::run(&file, &[], &visits(65_535)).is_ok());
+    assert_eq!(reference::run(&file, &[], &visits(65_536)), Err(Refusal { number: 16, place: 1 + 2 * 65_535 }));
+    c.layout_and_walk(&file, &[], &visits(65_535));
+    c.layout_and_walk(&file, &[], &visits(65_536));
+    // long stays in the largest problems
+    for _ in 0..20 * effort() {
+        let plan = Plan { bounds: vec![1, 100, MOST_VISITS], ..Plan::largest(&mut c.random) };
+        let problem = lawful(&mut c.random, &plan);
+        let layout = layouts::lawful(&mut c.random, 32);
+        let walk = walks::wandering(&mut c.random, &problem, 50_000, 60_000);
+        c.layout_and_walk(&file_of(&problem), &layout, &walk);
+        let walk = walks::roaming(&mut c.random, &problem, 100_000);
+        c.layout_and_walk(&file_of(&problem), &layout, &walk);
+    }
+}
+
+/// Null pointers with length 0.
+fn empty_slices(c: &mut Comparison) {
+    use examiner::raw;
+    use std::ptr::{null, null_mut};
+    let refused = |number, place| Err(Refusal { number, place });
+    // SAFETY: a null pointer stands with length 0 alone; all else is valid for the call, and apart.
+    unsafe {
+        c.call("examiner_read", &refused(1, 0), |answer| raw::examiner_read(null(), 0, answer));
+        c.call("examiner_write", &refused(1, 0), |answer| raw::examiner_write(null(), 0, null_mut(), 0, answer));
+        c.call("examiner_write", &refused(10, 10), |answer| raw::examiner_write(M10.as_ptr(), 10, null_mut(), 0, answer));
+        let fields = p().to_fields();
+        let needed = file_of(&p()).len() as u64;
+        c.call("examiner_write_fields", &refused(10, needed), |answer| raw::examiner_write_fields(fields.as_ptr(), null_mut(), 0, answer));
+        #[cfg(feature = "interference")]
+        c.call("examiner_interference", &refused(10, 1), |answer| raw::examiner_interference(M10.as_ptr(), 10, null_mut(), 0, answer));
+        #[cfg(feature = "bound")]
+        c.call("examiner_bound", &Ok(vec![8, 0, 5, 15]), |answer| raw::examiner_bound(M10.as_ptr(), 10, null(), 0, answer));
+        #[cfg(feature = "run")]
+        {
+            let mut held = [7; 32];
+            let place = held.as_mut_ptr();
+            c.call("examiner_run", &refused(15, 0), |answer| raw::examiner_run(M10.as_ptr(), 10, null(), 0, null(), 0, place, answer));
+            assert_eq!(held, [7; 32]);
+        }
+    }
+}
+
+fn main() {
+    let mut comparison = Comparison::new();
+    type Group = fn(&mut Comparison);
+    // the quick ones first
+    let groups: &[(&str, Group)] = &[
+        ("empty slices", empty_slices),
+        ("random small graphs", any_small_graph),
+        ("every cut of some files", every_cut),
+        ("every value of every byte of small files", every_value_of_every_byte),
+        ("every entry of some walks", every_entry_of_some_walks),
+        ("limits", limits),
+        ("long files", long_files),
+        ("long walks", long_walks),
+        ("small lawful problems", small_lawful_problems),
+        ("damaged records", damaged_records),
+        ("damaged bytes", damaged_bytes),
+        ("broken rules", broken_rules),
+        ("problems of any size", problems_of_any_size),
+        ("problems at every greatest count", problems_at_every_greatest_count),
+    ];
+    for (index, (name, group)) in groups.iter().enumerate() {
+        let started = Instant::now();
+        let calls_before: usize = comparison.calls.values().sum();
+        comparison.random = Random::seeded(1_000 + index as u64);
+        if catch_unwind(AssertUnwindSafe(|| group(&mut comparison))).is_err() {
+            eprintln!("\nthe two differ in the group \"{name}\", on");
+            comparison.asked.show();
+            exit(1);
+        }
+        let calls: usize = comparison.calls.values().sum();
+        println!("{name}: {} calls agree ({:.1} s)", calls - calls_before, started.elapsed().as_secs_f64());
+    }
+
+    println!("\ncalls of each export");
+    for (export, calls) in &comparison.calls {
+        println!("{calls:9}  {export}");
+    }
+    println!("\ncalls with each refusal (0: none)");
+    for (number, times) in comparison.met.iter().enumerate() {
+        println!("{times:9}  {number}");
+    }
+    println!("\ncases");
+    for (what, times) in &comparison.seen {
+        println!("{times:9}  {what}");
+    }
+
+    let mut wanted: Vec<usize> = (0..=10).collect();
+    if cfg!(any(feature = "bound", feature = "run")) {
+        wanted.extend(11..=13);
+    }
+    if cfg!(feature = "bound") {
+        wanted.push(14);
+    }
+    if cfg!(feature = "run") {
+        wanted.extend(15..=17);
+    }
+    for number in &wanted {
+        assert!(comparison.met[*number] > 0, "refusal {number} was never met");
+    }
+    for (what, times) in &comparison.seen {
+        assert!(*times > 0, "there was never {what}");
+    }
+    println!("\n{} calls agree; refusals met: {} of 17", comparison.calls.values().sum::<usize>(), wanted.len() - 1);
+}

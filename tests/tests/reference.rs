@@ -1,0 +1,286 @@
+//! The independent implementation held to itself: each question answered by two methods, on seeded problems. Needs no archive.
+
+use std::collections::BTreeMap;
+use std::fs;
+use std::path::Path;
+
+use examiner_tests::damage::*;
+use examiner_tests::problems::{lawful, longest, with_total, Plan};
+use examiner_tests::random::Random;
+use examiner_tests::{effort, layouts, walks};
+use reference::layout::{check, cold, contested, first_loads, visit_charges};
+use reference::longest::{by_contraction, by_states, lawful_walks};
+use reference::problem::*;
+use reference::run::{check_by_looking_back, simulate, simulate_by_looking_back};
+use reference::{fast, file, graph, interference};
+
+/// What the operations give on bytes, by the quick methods, in the form of the plain ones.
+fn fast_read(file: &[u8]) -> Result<[usize; 4], Refusal> {
+    fast::read(file).map(|flat| flat.counts())
+}
+
+fn plain_read(file: &[u8]) -> Result<[usize; 4], Refusal> {
+    let counts = reference::read(file)?.counts();
+    Ok([counts.functions, counts.vertices, counts.edges, counts.loops].map(|count| count as usize))
+}
+
+#[test]
+fn generated_problems_are_lawful() {
+    let mut random = Random::seeded(1);
+    let mut seen = BTreeMap::new();
+    let mut saw = |what: &'static str, it: bool| *seen.entry(what).or_insert(0) += usize::from(it);
+    for case in 0..6_000 * effort() {
+        let plan = match case % 20 {
+            0 => Plan::largest(&mut random),
+            1..=3 => Plan::medium(&mut random),
+            _ => Plan::small(&mut random, 12),
+        };
+        let problem = lawful(&mut random, &plan);
+        let file = file_of(&problem);
+        assert_eq!(reference::read(&file), Ok(problem.clone()), "{plan:?}");
+        assert_eq!(file::encode(&problem, problem.counts()), Ok(file));
+
+        let Counts { functions, vertices, edges, loops } = problem.counts();
+        saw("32 functions", functions == 32);
+        saw("128 vertices", vertices == 128);
+        saw("512 edges", edges == 512);
+        saw("32 loops", loops == 32);
+        saw("all counts at their greatest", (functions, vertices, edges, loops) == (32, 128, 512, 32));
+        saw("one vertex", vertices == 1);
+        saw("vertex 0 is a header", problem.loops.first().is_some_and(|l| l.header == 0));
+        let holds = |outer: &Loop, inner: &Loop| outer.header < inner.header && inner.last <= outer.last;
+        let depth = |l: &Loop| problem.loops.iter().filter(|outer| holds(outer, l)).count() + 1;
+        saw("nested three deep", problem.loops.iter().any(|l| depth(l) >= 3));
+        saw("nested 32 deep", problem.loops.iter().any(|l| depth(l) == 32));
+        let left = |l: &Loop| problem.edges.iter().any(|e| l.holds(e.from) && !l.holds(e.to));
+        saw("a dead loop", problem.loops.iter().any(|l| !left(l)));
+        saw("a dead loop in a live one", problem.loops.iter().any(|l| !left(l) && problem.loops.iter().any(|o| holds(o, l) && left(o))));
+        saw("a loop of bound 1", problem.loops.iter().any(|l| l.bound == 1));
+        let returns_from_within =
+            |l: &Loop| problem.loops.iter().any(|i| holds(l, i) && problem.edges.iter().any(|e| e.to == l.header && i.holds(e.from)));
+        saw("a return out of an inner loop", problem.loops.iter().any(returns_from_within));
+        let leaves = |e: &Edge| problem.loops.iter().filter(|l| l.holds(e.from) && !l.holds(e.to)).count();
+        saw("an edge out of three loops", problem.edges.iter().any(|e| leaves(e) >= 3));
+        saw(
+            "an edge from one loop into another",
+            problem.edges.iter().any(|e| leaves(e) > 0 && problem.loops.iter().any(|l| l.header == e.to && !l.holds(e.from))),
+        );
+        saw("a self edge", problem.edges.iter().any(|e| e.from == e.to));
+        saw("a function without a vertex", (0..functions).any(|f| problem.vertices.iter().all(|v| v.function != f)));
+        saw("a greatest cost", problem.vertices.iter().any(|v| v.cost == MOST_SIZE));
+        saw("a greatest load cost", problem.functions.iter().any(|f| f.load == MOST_SIZE));
+    }
+    for (what, times) in seen {
+        println!("{times:6}  {what}");
+        assert!(times > 0, "no problem had {what}");
+    }
+}
+
+#[test]
+fn interference_by_search_and_by_states() {
+    let mut random = Random::seeded(2);
+    for _ in 0..6_000 * effort() {
+        let plan = Plan::small(&mut random, 10);
+        let problem = lawful(&mut random, &plan);
+        assert_eq!(interference::by_search(&problem), interference::by_states(&problem), "{problem:?}");
+    }
+}
+
+#[test]
+fn greatest_charges_by_contraction_by_states_and_by_all_walks() {
+    let mut random = Random::seeded(3);
+    let (mut by_state, mut by_walk) = (0, 0);
+    for _ in 0..8_000 * effort() {
+        let plan = Plan::small(&mut random, 9);
+        let problem = lawful(&mut random, &plan);
+        let layout = layouts::lawful(&mut random, plan.functions);
+        let (regions, need) = check(&problem, &layout).expect("the scratchpad is the greatest");
+        let contested = contested(&problem, &interference::by_states(&problem), &regions);
+        let charges = visit_charges(&problem, &contested);
+        let greatest = by_contraction(&problem, &charges);
+        let first_loads = first_loads(&problem, &cold(&problem, &contested));
+        let bound = reference::layout::bound(&problem, &regions, need).expect("small problems stay below the limit").bound;
+        assert_eq!(u128::from(bound), greatest + u128::from(first_loads));
+
+        // the unfolded graph gives the same sum, and a lawful walk that earns it
+        if let Some((sum, walk)) = by_states(&problem, &charges, 30_000) {
+            by_state += 1;
+            assert_eq!(sum, greatest, "{problem:?} {layout:?}");
+            assert_eq!(check_by_looking_back(&problem, &walk), Ok(()));
+            assert_eq!(reference::run::charges(&charges, &walk), sum);
+        }
+        // no lawful walk has more, and none runs longer than the bound
+        let mut most = 0;
+        let all = lawful_walks(&problem, 20_000, &mut |walk| {
+            most = most.max(reference::run::charges(&charges, walk));
+            assert!(simulate(&problem, &regions, walk).cycles <= bound, "{problem:?} {layout:?} {walk:?}");
+        });
+        if all {
+            by_walk += 1;
+            assert_eq!(most, greatest, "{problem:?} {layout:?}");
+        }
+    }
+    println!("{by_state} problems by states, {by_walk} by all walks");
+    assert!(by_state > 5_000 && by_walk > 3_000);
+}
+
+#[test]
+fn walks_forwards_and_by_looking_back() {
+    let mut random = Random::seeded(4);
+    let mut verdicts = BTreeMap::new();
+    for _ in 0..4_000 * effort() {
+        let plan = Plan::small(&mut random, 12);
+        let problem = lawful(&mut random, &plan);
+        let regions = check(&problem, &layouts::lawful(&mut random, plan.functions)).expect("the scratchpad is the greatest").0;
+        let length = random.count(1..=60);
+        let mut walk = walks::wandering(&mut random, &problem, length, 400);
+        if random.percent(20) {
+            walk = walks::roaming(&mut random, &problem, 60);
+        }
+        for damage in 0..=walks::DAMAGES {
+            let walk = if damage == walks::DAMAGES { walk.clone() } else { walks::damaged(&mut random, &problem, &walk, damage) };
+            let verdict = reference::run::check(&problem, &walk);
+            assert_eq!(verdict, check_by_looking_back(&problem, &walk), "{problem:?} {walk:?}");
+            *verdicts.entry(verdict.err().map_or(0, |refusal| refusal.number)).or_insert(0) += 1;
+            if verdict.is_ok() {
+                assert_eq!(simulate(&problem, &regions, &walk), simulate_by_looking_back(&problem, &regions, &walk));
+            }
+        }
+    }
+    println!("{verdicts:?}");
+    for verdict in [0, 15, 16] {
+        assert!(verdicts[&verdict] > 1_000, "{verdict}");
+    }
+}
+
+#[test]
+fn written_files_read_back() {
+    let mut random = Random::seeded(5);
+    for case in 0..3_000 * effort() {
+        let plan = if case % 10 == 0 { Plan::medium(&mut random) } else { Plan::small(&mut random, 16) };
+        let problem = lawful(&mut random, &plan);
+        let mut fields = problem.to_fields();
+        fill_spare_places(&mut random, &mut fields);
+        assert_eq!(from_fields(&fields), (problem.clone(), problem.counts()));
+        let mut out = vec![0xA5; 2_200];
+        let written = reference::write_fields(&fields, &mut out).expect("lawful");
+        assert_eq!(reference::read(&out[..written]), Ok(problem));
+        assert!(out[written..].iter().all(|&byte| byte == 0xA5));
+        let mut again = vec![0x5A; written];
+        assert_eq!(reference::write(&out[..written], &mut again), Ok(written));
+        assert_eq!(again, out[..written]);
+        let short = reference::write(&out[..written], &mut again[..written - 1]);
+        assert_eq!(short, Err(Refusal { number: 10, place: written as u64 }));
+    }
+}
+
+#[test]
+fn bounds_at_the_limit() {
+    let file = |total, load| file_of(&with_total(total, load));
+    assert_eq!(reference::bound(&file(MOST_BOUND, 0), &[]).expect("not above").bound, MOST_BOUND);
+    assert_eq!(reference::bound(&file(MOST_BOUND - 7, 7), &[]).expect("not above").bound, MOST_BOUND);
+    let above = Err(Refusal { number: 14, place: 0 });
+    assert_eq!(reference::bound(&file(MOST_BOUND + 1, 0), &[]), above);
+    assert_eq!(reference::bound(&file(MOST_BOUND, 1), &[]), above);
+    assert_eq!(reference::bound(&file(MOST_BOUND - 6, 7), &[]), above);
+}
+
+#[test]
+fn the_longest_lawful_file() {
+    let file = file_of(&longest(&mut Random::seeded(6)));
+    assert_eq!(file.len(), 2_091);
+    assert!(reference::read(&file).is_ok());
+}
+
+/// Every refusal that the operations give on these bytes, by the plain methods and by the quick ones.
+fn compare_fast(random: &mut Random, problem: &Problem, file: &[u8], hits: &mut [usize; 18]) {
+    let mut saw = |refused: Option<Refusal>| hits[refused.map_or(0, |refusal| usize::from(refusal.number))] += 1;
+    let read = plain_read(file);
+    assert_eq!(read, fast_read(file), "{file:02X?}");
+    saw(read.err());
+
+    let words = problem.vertices.len() * problem.functions.len();
+    let length = if random.percent(20) { random.count(0..=words) } else { words + random.count(0..=3) };
+    let mut plain = vec![0xDEAD_BEEF; length];
+    let mut quick = plain.clone();
+    let filled = reference::interference(file, &mut plain);
+    assert_eq!(filled, fast::interference(file, &mut quick));
+    assert_eq!(plain, quick);
+    saw(filled.err());
+
+    let layout = layouts::any(random, problem.functions.len());
+    let bound = reference::bound(file, &layout);
+    assert_eq!(bound, fast::bound(file, &layout), "{problem:?} {layout:?}");
+    saw(bound.err());
+
+    let aim = random.count(1..=80);
+    let mut walk = walks::wandering(random, problem, aim, 500);
+    if random.percent(40) {
+        let damage = random.field(0..=walks::DAMAGES - 1);
+        walk = walks::damaged(random, problem, &walk, damage);
+    }
+    let run = reference::run(file, &layout, &walk);
+    assert_eq!(run, fast::run(file, &layout, &walk), "{problem:?} {layout:?} {walk:?}");
+    saw(run.clone().err());
+    if let (Ok(bound), Ok(run)) = (bound, run) {
+        assert!(run.cycles <= bound.bound, "{problem:?} {layout:?} {walk:?}");
+    }
+}
+
+#[test]
+fn quick_methods_agree_with_plain_ones() {
+    let mut random = Random::seeded(7);
+    let mut hits = [0; 18];
+    for case in 0..12_000 * effort() {
+        let plan = match case % 20 {
+            0 => Plan::largest(&mut random),
+            1 | 2 => Plan::medium(&mut random),
+            _ => Plan::small(&mut random, 14),
+        };
+        let mut problem = lawful(&mut random, &plan);
+        let layout = layouts::lawful(&mut random, plan.functions);
+        layouts::fit_scratchpad(&mut random, &mut problem, &layout);
+        let file = file_of(&problem);
+        compare_fast(&mut random, &problem, &file, &mut hits);
+        let damage = random.field(0..=FILE_DAMAGES - 1);
+        let damaged = damaged_file(&mut random, &problem, damage);
+        compare_fast(&mut random, &problem, &damaged, &mut hits);
+        let damage = random.field(0..=PROBLEM_DAMAGES - 1);
+        let damaged = damaged_problem(&mut random, &problem, damage);
+        compare_fast(&mut random, &problem, &file_of(&damaged), &mut hits);
+        assert_eq!(graph::check(&problem), Ok(()));
+    }
+    let over_long = vec![0; MOST_ENTRIES + 1];
+    for problem in [with_total(9, 1), with_total(MOST_BOUND, 1)] {
+        let file = file_of(&problem);
+        assert_eq!(reference::run(&file, &[], &over_long), Err(Refusal { number: 17, place: 1_000_000 }));
+        assert_eq!(fast::run(&file, &[], &over_long), Err(Refusal { number: 17, place: 1_000_000 }));
+        hits[17] += 1;
+    }
+    println!("{hits:?}");
+    assert!(hits.iter().all(|&times| times > 0), "{hits:?}");
+}
+
+/// What stands between the bars in the rows of the Markdown tables of a text.
+fn table_rows(text: &str) -> Vec<Vec<&str>> {
+    let rows = text.lines().filter(|line| line.starts_with('|'));
+    rows.map(|row| row.trim_matches('|').split('|').map(|cell| cell.trim_matches([' ', '`'])).collect()).collect()
+}
+
+#[test]
+fn samples_are_as_their_page_says() {
+    let folder = Path::new(env!("CARGO_MANIFEST_DIR")).join("../samples");
+    let page = fs::read_to_string(folder.join("README.md")).expect("the page is there");
+    let rows = table_rows(&page);
+    for sample in reference::examples::samples() {
+        let place = folder.join(sample.name);
+        assert_eq!(fs::read(place.join("problem.bin")).expect("bundled"), sample.problem, "{}", sample.name);
+        assert_eq!(fs::read(place.join("layout.bin")).expect("bundled"), sample.layout, "{}", sample.name);
+        let bound = reference::bound(&sample.problem, &sample.layout).expect("accepted");
+        let row = rows.iter().find(|row| row[0] == sample.name).expect("the page names it");
+        assert_eq!(row[3..7], [bound.need, bound.contested, bound.first_loads, bound.bound].map(|number| number.to_string()));
+    }
+    let bytes: Vec<u8> = rows.iter().filter(|row| row.len() == 3).filter_map(|row| u8::from_str_radix(row[1], 16).ok()).collect();
+    let q = reference::examples::samples().into_iter().find(|sample| sample.name == "q").expect("bundled");
+    assert_eq!(bytes, q.problem);
+}

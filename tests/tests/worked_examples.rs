@@ -1,0 +1,165 @@
+//! M1 to M10 of document 01, asked of the library through the safe wrapper, and the wrapper's own forms.
+#![cfg(feature = "library")]
+
+use examiner::{Edge, Fields, Function, Loop, Refusal, RefusalKind, Vertex};
+use reference::examples::M10;
+
+fn fields(scratchpad: u32, functions: &[(u32, u32)], vertices: &[(u32, u32)], edges: &[(u32, u32)], loops: &[(u32, u32, u32)]) -> Fields {
+    Fields::new(
+        scratchpad,
+        &functions.iter().map(|&(size, load)| Function { size, load }).collect::<Vec<_>>(),
+        &vertices.iter().map(|&(function, cost)| Vertex { function, cost }).collect::<Vec<_>>(),
+        &edges.iter().map(|&(from, to)| Edge { from, to }).collect::<Vec<_>>(),
+        &loops.iter().map(|&(header, last, bound)| Loop { header, last, bound }).collect::<Vec<_>>(),
+    )
+    .expect("there are places for all")
+}
+
+/// The file that the library writes for a record.
+fn file(fields: &Fields) -> Vec<u8> {
+    let mut out = [0; 2_100];
+    let written = examiner::write_fields(fields, &mut out).expect("lawful");
+    out[..written].to_vec()
+}
+
+fn p(scratchpad: u32) -> Vec<u8> {
+    let vertices = [0, 1, 0, 2, 0, 1, 0].map(|function| (function, 10));
+    file(&fields(scratchpad, &[(8, 5), (4, 3), (6, 4)], &vertices, &[(0, 1), (1, 2), (2, 3), (3, 4), (4, 5), (5, 6)], &[]))
+}
+
+fn q() -> Vec<u8> {
+    file(&fields(2, &[(1, 5), (1, 3)], &[(0, 10), (1, 10), (1, 20), (0, 10)], &[(0, 1), (0, 2), (1, 3), (2, 3)], &[]))
+}
+
+fn r(bound: u32) -> Vec<u8> {
+    file(&fields(2, &[(1, 5), (1, 3)], &[(0, 1), (0, 2), (1, 7), (0, 1)], &[(0, 1), (1, 2), (1, 3), (2, 1)], &[(1, 2, bound)]))
+}
+
+#[test]
+fn files_are_as_bundled() {
+    for sample in reference::examples::samples() {
+        let written = match sample.name {
+            "p" => p(14),
+            "q" => q(),
+            "m10" => M10.to_vec(),
+            _ => r(4),
+        };
+        assert_eq!(written, sample.problem, "{}", sample.name);
+        let mut out = vec![0; written.len()];
+        assert_eq!(examiner::write(&written, &mut out), Ok(out.len()));
+        assert_eq!(out, written);
+    }
+    assert_eq!(examiner::read(&r(4)), Ok(examiner::Counts { functions: 2, vertices: 4, edges: 4, loops: 1 }));
+}
+
+#[test]
+fn refusals_have_names_and_numbers() {
+    for (index, kind) in RefusalKind::ALL.into_iter().enumerate() {
+        assert_eq!(kind.number(), index as u32 + 1);
+        assert_eq!(RefusalKind::from_number(kind.number()), Some(kind));
+    }
+    assert_eq!(RefusalKind::from_number(0), None);
+    assert_eq!(RefusalKind::from_number(18), None);
+    assert_eq!(examiner::read(&[]), Err(Refusal { number: RefusalKind::EndsEarly, place: 0 }));
+    assert!(examiner::read(&M10[..9]).unwrap_err().to_string().starts_with("refused 1 at 9"));
+}
+
+#[test]
+fn records_have_a_limited_number_of_places() {
+    let vertex = Vertex { function: 0, cost: 0 };
+    let function = Function { size: 1, load: 0 };
+    assert!(Fields::new(1, &[function; 32], &[vertex; 128], &[Edge::default(); 512], &[Loop::default(); 32]).is_some());
+    assert_eq!(Fields::new(1, &[function; 33], &[vertex], &[], &[]), None);
+    assert_eq!(Fields::new(1, &[function], &[vertex; 129], &[], &[]), None);
+    assert_eq!(Fields::new(1, &[function], &[vertex], &[Edge::default(); 513], &[]), None);
+    assert_eq!(Fields::new(1, &[function], &[vertex], &[], &[Loop::default(); 33]), None);
+    let refusal = examiner::write_fields(&Fields::default(), &mut []).unwrap_err();
+    assert_eq!(refusal, Refusal { number: RefusalKind::OutOfRange, place: 1 });
+}
+
+#[cfg(feature = "interference")]
+#[test]
+fn m1_own_sets_of_p() {
+    let mut words = [u32::MAX; 22];
+    assert_eq!(examiner::interference(&p(14), &mut words), Ok(21));
+    let own = [0, 1, 0, 2, 0, 1, 0].into_iter().enumerate().map(|(v, f)| words[v * 3 + f]).collect::<Vec<_>>();
+    assert_eq!(own, [0b000, 0b001, 0b010, 0b011, 0b100, 0b101, 0b010]);
+    assert_eq!(words[21], u32::MAX);
+}
+
+#[cfg(feature = "bound")]
+mod bounds {
+    use super::*;
+    use examiner::{bound, Bound};
+
+    #[test]
+    fn m2_m3_m4_p() {
+        assert_eq!(bound(&p(14), &[0, 1, 1]), Ok(Bound { need: 14, contested: 2, first_loads: 8, bound: 85 }));
+        assert_eq!(bound(&p(14), &[0, 0, 1]).map(|b| b.bound), Ok(95));
+        assert_eq!(bound(&p(14), &[]).map(|b| (b.need, b.bound)), Ok((8, 100)));
+    }
+
+    #[test]
+    fn m5_p_in_too_small_a_scratchpad() {
+        let refused = |place| Err(Refusal { number: RefusalKind::ScratchpadTooSmall, place });
+        assert_eq!(bound(&p(14), &[0, 1, 2]), refused(18));
+        assert_eq!(bound(&p(13), &[0, 1, 1]), refused(14));
+    }
+
+    #[test]
+    fn m6_q() {
+        assert_eq!(bound(&q(), &[0, 1]).map(|b| b.bound), Ok(48));
+    }
+
+    #[test]
+    fn m7_m8_m9_r() {
+        assert_eq!(bound(&r(4), &[0, 1]).map(|b| b.bound), Ok(39));
+        assert_eq!(bound(&r(4), &[]).map(|b| b.bound), Ok(65));
+        assert_eq!(bound(&r(1), &[0, 1]).map(|b| b.bound), Ok(12));
+        assert_eq!(bound(&r(1), &[]).map(|b| b.bound), Ok(14));
+    }
+
+    #[test]
+    fn m10_a_whole_file() {
+        assert_eq!(bound(&M10, &[]), Ok(Bound { need: 8, contested: 0, first_loads: 5, bound: 15 }));
+    }
+}
+
+#[cfg(feature = "run")]
+mod runs {
+    use super::*;
+    use examiner::run;
+
+    const CHAIN: [u32; 7] = [0, 1, 2, 3, 4, 5, 6];
+
+    #[test]
+    fn m2_m3_p() {
+        let first = run(&p(14), &[0, 1, 1], &CHAIN).expect("lawful");
+        assert_eq!((first.cycles, first.loads), (85, 4));
+        assert_eq!(first.held[..3], [Some(0), Some(1), None]);
+        assert!(first.held[3..].iter().all(Option::is_none));
+        let second = run(&p(14), &[0, 0, 1], &CHAIN).expect("lawful");
+        assert_eq!((second.cycles, second.loads), (95, 6));
+    }
+
+    #[test]
+    fn m6_q() {
+        assert_eq!(run(&q(), &[0, 1], &[0, 2, 3]).map(|r| r.cycles), Ok(48));
+    }
+
+    #[test]
+    fn m8_longest_run_of_r() {
+        // at each number of visits to the header there is one lawful walk
+        let cycles = (1..=4).map(|visits| {
+            let walk = [&[0], &[1, 2].repeat(visits - 1)[..], &[1, 3]].concat();
+            run(&r(4), &[], &walk).expect("lawful").cycles
+        });
+        assert_eq!(cycles.max(), Some(60));
+    }
+
+    #[test]
+    fn m9_a_fifth_visit() {
+        let fifth = [0, 1, 2, 1, 2, 1, 2, 1, 2, 1, 3];
+        assert_eq!(run(&r(4), &[0, 1], &fifth), Err(Refusal { number: RefusalKind::BeyondBound, place: 9 }));
+    }
+}
