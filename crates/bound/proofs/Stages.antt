@@ -1,6 +1,6 @@
 -- Bound's answer is what its definition says, from the checks through 13 and the price.
 use Prim.Native.Nat.{ℕ}
-use mathlib.Core.Path.{_≡_, subst}
+use mathlib.Core.Path.{_≡_}
 use mathlib.Core.List.{List}
 use mathlib.Core.Logic.{inl, inr}
 use Rattle.model.specs.declared.Refusal.{Refusal}
@@ -8,7 +8,6 @@ use Rattle.model.specs.declared.Verdict.the-variants as verdict
 use Rattle.model.specs.declared.Problem.{Problem}
 use Rattle.model.specs.declared.BoundAnswer.{BoundAnswer}
 use Rattle.model.specs.declared.BoundAnswer.the-variants.{Bounded, Refused}
-use Rattle.model.specs.Numbers.{problemOf}
 use Rattle.model.specs.Verdicts.{judgeBound}
 use Rattle.model.specs.Results.{BoundSays}
 use Rattle.bound.specs.Priced.{Priced}
@@ -17,9 +16,6 @@ module _ (p : Problem) (layout : List ℕ) where
   pub refused-says : (x : Refusal) → judgeBound p layout ≡ verdict.Refused x → BoundSays p layout (Refused x)
   refused-says x e = inl e
 
-  says : judgeBound p layout ≡ verdict.Accepted → (r : BoundAnswer) → Priced p layout r → BoundSays p layout r
-  says good (Bounded b) is = (good, is)
-  says good (Refused f) is = inr (good, is .0, is .1)
-
-  pub priced-says : judgeBound p layout ≡ verdict.Accepted → (l : List ℕ) → problemOf l ≡ p → (r : BoundAnswer) → Priced (problemOf l) layout r → BoundSays p layout r
-  priced-says good l own r is = says good r (subst (λ (q : Problem). Priced q layout r) own is)
+  pub priced-says : judgeBound p layout ≡ verdict.Accepted → (r : BoundAnswer) → Priced p layout r → BoundSays p layout r
+  priced-says good (Bounded b) is = (good, is)
+  priced-says good (Refused f) is = inr (good, is .0, is .1)

@@ -42,6 +42,18 @@ pub fn price(l: &[u64; 1446], layout: &[u8], need: Bytes) -> BoundAnswer
     })
 }
 
+// Bound on checked numbers: the layout, and its price.
+pub fn bound_checked(l: &[u64; 1446], layout: &[u8]) -> BoundAnswer
+    requires { ⌜ Checked (now l) ⌝ }
+    ensures { λ r. ⌜ BoundSays (problemOf (now (l .entry))) (now (layout .entry)) r ⌝ }
+{
+    let judged = layout::judge(l, layout);
+    let LayoutAnswer::Fits(need) = judged else {
+        return BoundAnswer::Refused(layout::refusal_in(judged));
+    };
+    price(l, layout, need)
+}
+
 // **Bound.** Bytes needed, contested vertices, first loads and the bound, or the first refusal that applies.
 pub fn bound(problem: Problem, layout: &[u8]) -> BoundAnswer
     ensures { λ r. ⌜ BoundSays problem (now (layout .entry)) r ⌝ }
@@ -51,9 +63,5 @@ pub fn bound(problem: Problem, layout: &[u8]) -> BoundAnswer
     let Fields::Done(_) = checked else {
         return BoundAnswer::Refused(file::refusal_in(checked));
     };
-    let judged = layout::judge(&numbers, layout);
-    let LayoutAnswer::Fits(need) = judged else {
-        return BoundAnswer::Refused(layout::refusal_in(judged));
-    };
-    price(&numbers, layout, need)
+    bound_checked(&numbers, layout)
 }

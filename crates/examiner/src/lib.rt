@@ -1,15 +1,15 @@
 // The library for C and Rust callers: an operation an export. Each answers 0, or the refusal's number with its place in answer[0].
 use model::BoundAnswer;
 use model::InterferenceAnswer;
-use model::Problem;
 use model::Refusal;
 use model::RunAnswer;
 use model::RunVerdict;
 use model::Verdict;
 use model::WriteAnswer;
 ghost use mathlib.Core.Path.{_≡_};
-ghost use mathlib.Core.List.{_∷_};
+ghost use mathlib.Core.List.{[], _∷_};
 ghost use lib.ListN.{length};
+ghost use Rattle.model.specs.Numbers.{problemOf};
 ghost use Rattle.model.specs.Operations.{writtenBuffer};
 ghost use Rattle.examiner.specs.Outcomes.{Results, Refusing, status, answerAfter, counts, onWritten, onFilled, onBounded, onRan, heldAfter, Right};
 ghost use Rattle.examiner.specs.Exports.{readOutcome, writeOutcome, writeOut, fieldsProblem, fieldsOutcome, InterferenceOutcome, BoundOutcome, runOutcome, runHeld};
@@ -35,15 +35,24 @@ fn tell_written(written: WriteAnswer, answer: &mut [u64; 4]) -> u32
     }
 }
 
-// Tells the numbers of functions, vertices, edges and loops.
-fn tell_counts(problem: Problem, answer: &mut [u64; 4]) -> u32
-    ensures { λ r. ⌜ r ≡ status (Results (counts problem)) ⌝ ∗ ⌜ now (answer .exit) ≡ answerAfter (Results (counts problem)) (now (answer .entry)) ⌝ }
+// Tells a result of four numbers.
+fn tell_four(first: u64, second: u64, third: u64, fourth: u64, answer: &mut [u64; 4]) -> u32
+    ensures { λ r. ⌜ r ≡ status (Results (first ∷ second ∷ third ∷ fourth ∷ [])) ⌝ }
+    ensures { λ r. ⌜ now (answer .exit) ≡ answerAfter (Results (first ∷ second ∷ third ∷ fourth ∷ [])) (now (answer .entry)) ⌝ }
 {
-    answer[0] = problem.function_count as u64;
-    answer[1] = problem.vertex_count as u64;
-    answer[2] = problem.edge_count as u64;
-    answer[3] = problem.loop_count as u64;
+    answer[0] = first;
+    answer[1] = second;
+    answer[2] = third;
+    answer[3] = fourth;
     0
+}
+
+// Tells the numbers of functions, vertices, edges and loops.
+fn tell_counts(l: &[u64; 1446], answer: &mut [u64; 4]) -> u32
+    ensures { λ r. ⌜ r ≡ status (Results (counts (problemOf (now (l .entry))))) ⌝ }
+    ensures { λ r. ⌜ now (answer .exit) ≡ answerAfter (Results (counts (problemOf (now (l .entry))))) (now (answer .entry)) ⌝ }
+{
+    tell_four(l[2], l[67], l[324], l[1349], answer)
 }
 
 // **Read**: the numbers of functions, vertices, edges and loops.
@@ -52,12 +61,12 @@ pub extern "C" fn examiner_read(file: &[u8], answer: &mut [u64; 4]) -> u32
     ensures { λ r. ⌜ r ≡ status (readOutcome (now (file .entry))) ⌝ }
     ensures { λ r. ⌜ now (answer .exit) ≡ answerAfter (readOutcome (now (file .entry))) (now (answer .entry)) ⌝ }
 {
-    let read = file::read(file);
-    let verdict = read.verdict;
+    let mut numbers = [0u64; 1446];
+    let verdict = file::read_numbers(file, &mut numbers);
     let Verdict::Accepted = verdict else {
         return refuse(model::refusal_in(verdict), answer);
     };
-    tell_counts(read.problem, answer)
+    tell_counts(&numbers, answer)
 }
 
 // **Write** of the problem that the file holds: the bytes written, and the file in `out`.
@@ -67,12 +76,13 @@ pub extern "C" fn examiner_write(file: &[u8], out: &mut [u8], answer: &mut [u64;
     ensures { λ r. ⌜ now (answer .exit) ≡ answerAfter (writeOutcome (now (file .entry)) (length (now (out .entry)))) (now (answer .entry)) ⌝ }
     ensures { λ r. ⌜ now (out .exit) ≡ writeOut (now (file .entry)) (now (out .entry)) ⌝ }
 {
-    let read = file::read(file);
-    let verdict = read.verdict;
+    let mut numbers = [0u64; 1446];
+    let verdict = file::read_numbers(file, &mut numbers);
     let Verdict::Accepted = verdict else {
         return refuse(model::refusal_in(verdict), answer);
     };
-    tell_written(file::write(read.problem, out), answer)
+    let problem = numbers::problem_of(&numbers);
+    tell_written(file::write(problem, out), answer)
 }
 
 // A problem's numbers: the edition, which is 1, and then the fields.
@@ -127,12 +137,13 @@ pub extern "C" fn examiner_interference(
 ) -> u32
     ensures { λ r. ⌜ Right (InterferenceOutcome (now (file .entry)) (now (words .entry)) (now (words .exit))) (now (answer .entry)) (now (answer .exit)) r ⌝ }
 {
-    let read = file::read(file);
-    let verdict = read.verdict;
+    let mut numbers = [0u64; 1446];
+    let verdict = file::read_numbers(file, &mut numbers);
     let Verdict::Accepted = verdict else {
         return refuse(model::refusal_in(verdict), answer);
     };
-    tell_filled(interference::interference(read.problem, words), answer)
+    let filled = interference::interference_checked(&numbers, words);
+    tell_filled(filled, answer)
 }
 
 // Tells what Bound gave.
@@ -141,13 +152,13 @@ fn tell_bounded(bounded: BoundAnswer, answer: &mut [u64; 4]) -> u32
 {
     match bounded {
         BoundAnswer::Refused(refusal) => refuse(refusal, answer),
-        BoundAnswer::Bounded(b) => {
-            answer[0] = b.need.0;
-            answer[1] = b.contested as u64;
-            answer[2] = b.first.0;
-            answer[3] = b.bound.0;
-            0
-        }
+        BoundAnswer::Bounded(b) => tell_four(
+            b.need.0,
+            b.contested as u64,
+            b.first.0,
+            b.bound.0,
+            answer,
+        ),
     }
 }
 
@@ -156,12 +167,13 @@ fn tell_bounded(bounded: BoundAnswer, answer: &mut [u64; 4]) -> u32
 pub extern "C" fn examiner_bound(file: &[u8], layout: &[u8], answer: &mut [u64; 4]) -> u32
     ensures { λ r. ⌜ Right (BoundOutcome (now (file .entry)) (now (layout .entry))) (now (answer .entry)) (now (answer .exit)) r ⌝ }
 {
-    let read = file::read(file);
-    let verdict = read.verdict;
+    let mut numbers = [0u64; 1446];
+    let verdict = file::read_numbers(file, &mut numbers);
     let Verdict::Accepted = verdict else {
         return refuse(model::refusal_in(verdict), answer);
     };
-    tell_bounded(bound::bound(read.problem, layout), answer)
+    let bounded = bound::bound_checked(&numbers, layout);
+    tell_bounded(bounded, answer)
 }
 
 // Tells what Run gave.
@@ -196,10 +208,11 @@ pub extern "C" fn examiner_run(
     ensures { λ r. ⌜ now (answer .exit) ≡ answerAfter (runOutcome (now (file .entry)) (now (layout .entry)) (now (walk .entry))) (now (answer .entry)) ⌝ }
     ensures { λ r. ⌜ now (held .exit) ≡ runHeld (now (file .entry)) (now (layout .entry)) (now (walk .entry)) (now (held .entry)) ⌝ }
 {
-    let read = file::read(file);
-    let verdict = read.verdict;
+    let mut numbers = [0u64; 1446];
+    let verdict = file::read_numbers(file, &mut numbers);
     let Verdict::Accepted = verdict else {
         return refuse(model::refusal_in(verdict), answer);
     };
-    tell_ran(run::run(read.problem, layout, walk), held, answer)
+    let ran = run::run_checked(&numbers, layout, walk);
+    tell_ran(ran, held, answer)
 }

@@ -2,7 +2,7 @@
 use Prim.Native.Nat.{ℕ, _<_}
 use mathlib.Core.Path.{_≡_, sym, _∙_, ap}
 use mathlib.Core.List.{List}
-use lib.ListN.{getD, replicate, length-replicate}
+use lib.ListN.{length, getD, replicate, length-replicate}
 use Rattle.model.specs.declared.Fields.{Fields}
 use Rattle.model.specs.declared.Fields.the-variants.{Done}
 use Rattle.model.specs.File.{scanned, numberCount, firstField, readFields, checkFields}
@@ -10,15 +10,25 @@ use Rattle.fields.specs.Valid.{edition}
 use Rattle.graph.specs.Counts.{Counted}
 use Rattle.facts.proofs.Facts.{FieldFacts, field-facts}
 use Rattle.roundtrip.proofs.Turns.{is-judged}
-use Rattle.roundtrip.proofs.Reading.{read-back}
+use Rattle.roundtrip.proofs.Reading.{ReadBack, read-back}
 
 pub counted : (l : List ℕ) (end : ℕ) → checkFields l ≡ Done end → Counted l
 counted l end e =
     let f : FieldFacts l = field-facts l end e in
     record { some-vertex = f .some-vertex; vertices = f .vertices; edges = f .edges; loops = f .loops }
 
-pub counted-read : (s : List ℕ) → ((i : ℕ) → getD s i 0 < 256) → (f : Fields) (l : List ℕ) → scanned f l ≡ readFields s → (end : ℕ) → f ≡ Done end → Counted l
-counted-read s byte f l is end e =
-    counted l end
-    (is-judged (read-back s byte numberCount 0 0 firstField (replicate numberCount 0) end l edition (length-replicate {A = ℕ} numberCount 0)
-    (sym is ∙ ap (λ (x : Fields). scanned x l) e) .judged))
+-- Numbers that were read pass the checks of writing.
+module _ (s : List ℕ) (byte : (i : ℕ) → getD s i 0 < 256) (f : Fields) (l : List ℕ) (is : scanned f l ≡ readFields s) (end : ℕ) (e : f ≡ Done end) where
+  again : ReadBack numberCount s 0 0 firstField (replicate numberCount 0) end l
+  again =
+      read-back s byte numberCount 0 0 firstField (replicate numberCount 0) end l edition (length-replicate {A = ℕ} numberCount 0)
+      (sym is ∙ ap (λ (x : Fields). scanned x l) e)
+
+  pub size-read : length l ≡ numberCount
+  size-read = again .size
+
+  pub checked-read : checkFields l ≡ Done end
+  checked-read = is-judged (again .judged)
+
+  pub counted-read : Counted l
+  counted-read = counted l end checked-read

@@ -2,6 +2,7 @@
 use Prim.Native.Nat.{ℕ}
 use mathlib.Core.Path.{_≡_, refl, sym, ap, _∙_}
 use mathlib.Core.List.{List}
+use lib.ListN.{length}
 use Rattle.model.specs.declared.Refusal.{Refusal}
 use Rattle.model.specs.declared.Verdict.{Verdict}
 use Rattle.model.specs.declared.Verdict.the-variants as verdict
@@ -15,7 +16,8 @@ use Rattle.model.specs.Operations.{afterGraph, afterFields, checkProblem, Check
 use Rattle.model.specs.Verdicts.{asVerdict, judgeProblem}
 use Rattle.model.proofs.Answers.{refused-not-done}
 use Rattle.numbers.specs.Numbered.{Numbered}
-use Rattle.numbers.proofs.Inverse.{problem-of-numbers}
+use Rattle.numbers.proofs.Inverse.{numbers-length, problem-of-numbers, numbers-of-problem}
+use Rattle.facts.proofs.Facts.{field-facts}
 use Rattle.file.specs.Steps.{refusalIn, checkNumbers}
 
 -- Checks that end well had the fields and the graph end well.
@@ -54,4 +56,15 @@ module _ (p : Problem) (l : List ℕ) (numbered : Numbered p l) (f : Fields) (is
 
     pub opened : Checked l
     unfolding checkNumbers
-    opened = let g : Good (checkFields l) (problemOf l) need = good (checkFields l) (problemOf l) need (sym is ∙ e) in record { need = need; fields = g .fields; graph = g .graph }
+    opened =
+        let g : Good (checkFields l) (problemOf l) need = good (checkFields l) (problemOf l) need (sym is ∙ e) in
+        record { size = ap length (numbered .is) ∙ numbers-length p (numbered .sized); need = need; fields = g .fields; graph = g .graph }
+
+-- Checked numbers are those of a problem that passes its checks.
+pub checked-problem : (l : List ℕ) → Checked l → judgeProblem (problemOf l) ≡ verdict.Accepted
+unfolding judgeProblem checkProblem
+checked-problem l ok =
+    let own : numbersOf (problemOf l) ≡ l = numbers-of-problem l (ok .size) (field-facts l (ok .need) (ok .fields) .edition) in
+    ap (λ (m : List ℕ). asVerdict (afterFields (checkFields m) (problemOf l))) own
+    ∙ ap (λ (f : Fields). asVerdict (afterFields f (problemOf l))) (ok .fields)
+    ∙ ap (λ (v : Verdict). asVerdict (afterGraph v (ok .need))) (ok .graph)

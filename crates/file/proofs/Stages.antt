@@ -2,7 +2,7 @@
 use Prim.Native.Nat.{ℕ, _≤_, _<_}
 use mathlib.Core.Path.{_≡_, sym, ap, _∙_}
 use mathlib.Core.List.{List}
-use lib.ListN.{length}
+use lib.ListN.{length, getD}
 use lib.Seq.{sets}
 use borrow.Author.Tests.{lt-ltb, le-ltb}
 use Rattle.model.specs.declared.Refusal.{Refusal}
@@ -20,34 +20,41 @@ use Rattle.model.specs.Numbers.{problemOf}
 use Rattle.model.specs.File.{Scan, scanned, readFields, checkFields, fileBytes}
 use Rattle.model.specs.Graph.{judgeGraph}
 use Rattle.model.specs.Operations.{unread, readVerdict, readRest, readFile, afterGraph, afterFields, writeChecked, writeProblem, afterWrite, writtenBuffer}
+use Rattle.model.proofs.Answers.{refused-not-accepted}
 use Rattle.numbers.specs.Numbered.{Numbered}
 use Rattle.scan.specs.Answers.{Fits}
+use Rattle.file.proofs.Counts.{size-read, checked-read}
 use Rattle.file.proofs.Opened.{good, checks-problem}
-use Rattle.file.specs.Steps.{refusalIn, checkNumbers}
+use Rattle.file.specs.Steps.{refusalIn, NumbersRead, checkNumbers}
 
--- Read, where the fields left the answer f and the numbers l.
+-- Reading, where the fields left the answer f and the numbers l.
 module _ (s : List ℕ) (f : Fields) (l : List ℕ) (is : scanned f l ≡ readFields s) where
   rest : (g : Fields) → f ≡ g → readRest (length s) g l ≡ readFile s
   unfolding readFile
   rest g e = ap (λ (x : Fields). readRest (length s) x l) (sym e) ∙ ap (λ (x : Scan). readRest (length s) (x .answer) (x .numbers)) is
 
-  pub read-refused : (r x : Refusal) → f ≡ fields.Refused r → x ≡ refusalIn f → (a : ReadAnswer) → a ≡ unread x → a ≡ readFile s
+  pub read-refused : (r x : Refusal) → f ≡ fields.Refused r → x ≡ refusalIn f → NumbersRead s l (verdict.Refused x)
   unfolding refusalIn
-  read-refused r x e q a is-a = is-a ∙ ap unread (q ∙ ap refusalIn e) ∙ rest _ e
+  read-refused r x e q = record { answer = ap unread (q ∙ ap refusalIn e) ∙ rest _ e; checked = refused-not-accepted }
 
   module _ (end : ℕ) (e : f ≡ fields.Done end) where
-    pub left-over : end < length s → (a : ReadAnswer) → a ≡ unread (refusal.LeftOver end) → a ≡ readFile s
-    left-over h a is-a = is-a ∙ simp (lt-ltb end (length s) h) at (rest _ e)
+    pub left-over : end < length s → NumbersRead s l (verdict.Refused (refusal.LeftOver end))
+    left-over h = record { answer = simp (lt-ltb end (length s) h) at (rest _ e); checked = refused-not-accepted }
 
-    module _ (h : length s ≤ end) (v : Verdict) (judged : v ≡ judgeGraph (problemOf l)) where
-      at-graph : (w : Verdict) → v ≡ w → readVerdict w (problemOf l) ≡ readFile s
-      at-graph w q = ap (λ (x : Verdict). readVerdict x (problemOf l)) (sym q ∙ judged) ∙ simp (le-ltb end (length s) h) at (rest _ e)
+    pub graph-judged : ((i : ℕ) → getD s i 0 < 256) → length s ≤ end → (v : Verdict) → v ≡ judgeGraph (problemOf l) → NumbersRead s l v
+    graph-judged byte h v judged =
+        record {
+          answer = ap (λ (x : Verdict). readVerdict x (problemOf l)) judged ∙ simp (le-ltb end (length s) h) at (rest _ e);
+          checked = λ good. record { size = size-read s byte f l is end e; need = end; fields = checked-read s byte f l is end e; graph = sym judged ∙ good };
+        }
 
-      pub bad-graph : (r : Refusal) → v ≡ verdict.Refused r → (p : Problem) → p ≡ zeroProblem → record { verdict = v; problem = p } ≡ readFile s
-      bad-graph r q p z = rw (q, z) (at-graph _ q)
+-- Read's answer, made of the numbers.
+module _ (s l : List ℕ) (v : Verdict) (r : NumbersRead s l v) where
+  pub no-problem : (f : Refusal) → v ≡ verdict.Refused f → (p : Problem) → p ≡ zeroProblem → record { verdict = v; problem = p } ≡ readFile s
+  no-problem f e p z = rw (e, z) (ap (λ (x : Verdict). readVerdict x (problemOf l)) (sym e) ∙ r .answer)
 
-      pub read-whole : v ≡ verdict.Accepted → (p : Problem) → p ≡ problemOf l → record { verdict = verdict.Accepted; problem = p } ≡ readFile s
-      read-whole q p z = rw z (at-graph _ q)
+  pub whole-problem : v ≡ verdict.Accepted → (p : Problem) → p ≡ problemOf l → record { verdict = verdict.Accepted; problem = p } ≡ readFile s
+  whole-problem e p z = rw z (ap (λ (x : Verdict). readVerdict x (problemOf l)) (sym e) ∙ r .answer)
 
 -- A problem's checks, where the fields gave the answer f.
 module _ (l : List ℕ) (f : Fields) (is : f ≡ checkFields l) where

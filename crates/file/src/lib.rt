@@ -7,8 +7,8 @@ use model::Verdict;
 use model::WriteAnswer;
 ghost use mathlib.Core.Path.{_≡_};
 ghost use lib.ListN.{length};
-ghost use Rattle.model.specs.Operations.{unread, readFile, writeProblem, writtenBuffer};
-ghost use Rattle.file.specs.Steps.{refusalIn, checkNumbers};
+ghost use Rattle.model.specs.Operations.{readFile, writeProblem, writtenBuffer};
+ghost use Rattle.file.specs.Steps.{refusalIn, NumbersRead, checkNumbers};
 
 // The refusal that an answer holds.
 pub fn refusal_in(answer: Fields) -> Refusal
@@ -20,14 +20,20 @@ pub fn refusal_in(answer: Fields) -> Refusal
     }
 }
 
-// Read's answer for a refusal.
-fn not_read(refusal: Refusal) -> ReadAnswer
-    ensures { λ r. ⌜ r ≡ unread refusal ⌝ }
+// Reads a file's numbers, every spare place zero. Where Read accepts, they are its problem's, and they have passed the problem's own checks: an
+// operation on a file goes on with them.
+pub fn read_numbers(bytes: &[u8], numbers: &mut [u64; 1446]) -> Verdict
+    ensures { λ r. ⌜ NumbersRead (now (bytes .entry)) (now (numbers .exit)) r ⌝ }
 {
-    ReadAnswer {
-        verdict: Verdict::Refused(refusal),
-        problem: numbers::zero_problem(),
+    *numbers = [0u64; 1446];
+    let fields = scan::read_fields(bytes, numbers);
+    let Fields::Done(end) = fields else {
+        return Verdict::Refused(refusal_in(fields));
+    };
+    if end < bytes.len() {
+        return Verdict::Refused(Refusal::LeftOver(end as u64));
     }
+    graph::judge(numbers)
 }
 
 // **Read.** The problem that the bytes are the file of, with every spare place zero, or the first refusal that applies.
@@ -35,17 +41,10 @@ pub fn read(bytes: &[u8]) -> ReadAnswer
     ensures { λ r. ⌜ r ≡ readFile (now (bytes .entry)) ⌝ }
 {
     let mut numbers = [0u64; 1446];
-    let fields = scan::read_fields(bytes, &mut numbers);
-    let Fields::Done(end) = fields else {
-        return not_read(refusal_in(fields));
-    };
-    if end < bytes.len() {
-        return not_read(Refusal::LeftOver(end as u64));
-    }
-    let graph = graph::judge(&numbers);
-    let Verdict::Accepted = graph else {
+    let verdict = read_numbers(bytes, &mut numbers);
+    let Verdict::Accepted = verdict else {
         return ReadAnswer {
-            verdict: graph,
+            verdict: verdict,
             problem: numbers::zero_problem(),
         };
     };

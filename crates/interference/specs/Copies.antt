@@ -1,12 +1,8 @@
--- The table's sets copied to the lent words, and the answer to a refusal.
+-- The table's sets copied to the lent words.
 use Prim.Native.Nat.{ℕ, _+_, _*_, _≤_, _<_}
 use mathlib.Core.Path.{_≡_}
 use mathlib.Core.List.{List}
 use lib.ListN.{length, getD}
-use Rattle.model.specs.declared.Fields.{Fields}
-use Rattle.model.specs.declared.Fields.the-variants as fields
-use Rattle.model.specs.declared.InterferenceAnswer.{InterferenceAnswer}
-use Rattle.model.specs.declared.InterferenceAnswer.the-variants as interference
 
 -- The first `count` words of vertex v stand from `at` on, and the other words are as they were.
 pub record RowCopied (table : List ℕ) (v count at : ℕ) (words after : List ℕ) : Type 0 where
@@ -20,8 +16,3 @@ pub record Copied (table : List ℕ) (vertices count : ℕ) (words after : List 
   pub long : length after ≡ length words
   pub copied : (v f : ℕ) → v < vertices → f < count → getD after (v * count + f) 0 ≡ getD table (32 * v + f) 0
   pub later : (k : ℕ) → vertices * count ≤ k → getD after k 0 ≡ getD words k 0
-
--- The refusal that the checks hold. (Asked only where there is one.)
-unfoldable pub refusedWith : Fields → InterferenceAnswer
-refusedWith (fields.Refused f) = interference.Refused f
-refusedWith (fields.Done at) = interference.Filled at

@@ -14,7 +14,7 @@ ghost use Rattle.model.specs.Operations.{Checked};
 ghost use Rattle.model.specs.Results.{Member, InterferenceSays};
 ghost use Rattle.interference.specs.Words.{Step, Swept, Closed};
 ghost use Rattle.interference.specs.Flows.{SetGains, InSet, RowPassed, RowsPassed, SetTable, IsFresh, FreshPassed, AllFreshPassed, FreshTable};
-ghost use Rattle.interference.specs.Copies.{RowCopied, Copied, refusedWith};
+ghost use Rattle.interference.specs.Copies.{RowCopied, Copied};
 
 // The members of w, and g.
 fn with(w: u32, g: usize) -> u32
@@ -188,14 +188,21 @@ fn copy_out(table: &[u32; 4096], vertices: usize, count: usize, words: &mut [u32
     }
 }
 
-// The answer for a check that refused.
-fn turned_down(checked: Fields) -> InterferenceAnswer
-    ensures { λ r. ⌜ r ≡ refusedWith checked ⌝ }
+// Interference on checked numbers: the room for the words, and the sets.
+pub fn interference_checked(l: &[u64; 1446], words: &mut [u32]) -> InterferenceAnswer
+    requires { ⌜ Checked (now l) ⌝ }
+    ensures { λ r. ⌜ InterferenceSays (problemOf (now (l .entry))) (now (words .entry)) (now (words .exit)) r ⌝ }
 {
-    match checked {
-        Fields::Refused(refusal) => InterferenceAnswer::Refused(refusal),
-        Fields::Done(at) => InterferenceAnswer::Filled(at),
+    let vertices = graph::vertex_count(l);
+    let count = lookup::function_count(l);
+    let need = vertices * count;
+    if words.len() < need {
+        return InterferenceAnswer::Refused(Refusal::ShortBuffer(need as u64));
     }
+    let mut table = [0u32; 4096];
+    sets(l, &mut table);
+    copy_out(&table, vertices, count, words);
+    InterferenceAnswer::Filled(need)
 }
 
 // **Interference.** Word v x functions + f of the buffer becomes the interference set of v and f, or the first refusal that applies leaves the
@@ -206,16 +213,7 @@ pub fn interference(problem: Problem, words: &mut [u32]) -> InterferenceAnswer
     let numbers = numbers::numbers_of(problem);
     let checked = file::check(&numbers);
     let Fields::Done(_) = checked else {
-        return turned_down(checked);
+        return InterferenceAnswer::Refused(file::refusal_in(checked));
     };
-    let vertices = graph::vertex_count(&numbers);
-    let count = lookup::function_count(&numbers);
-    let need = vertices * count;
-    if words.len() < need {
-        return InterferenceAnswer::Refused(Refusal::ShortBuffer(need as u64));
-    }
-    let mut table = [0u32; 4096];
-    sets(&numbers, &mut table);
-    copy_out(&table, vertices, count, words);
-    InterferenceAnswer::Filled(need)
+    interference_checked(&numbers, words)
 }

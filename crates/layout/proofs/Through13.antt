@@ -1,6 +1,6 @@
 -- The checks of Bound and Run through 13: the problem's own, then the layout's.
 use Prim.Native.Nat.{ℕ, _<_}
-use mathlib.Core.Path.{_≡_, refl, sym, ap, _∙_, subst}
+use mathlib.Core.Path.{_≡_, refl, sym, ap, _∙_}
 use mathlib.Core.List.{List}
 use mathlib.Core.Bool.{false, cond}
 use native.Mathlib.Omega.{arith}
@@ -26,7 +26,7 @@ use Rattle.model.proofs.Search.{none-below}
 use Rattle.numbers.specs.Numbered.{Numbered}
 use Rattle.file.specs.Steps
 use Rattle.file.specs.Steps.{checkNumbers}
-use Rattle.file.proofs.Opened.{refused-problem, accepted-problem, same-problem, opened}
+use Rattle.file.proofs.Opened.{refused-problem, checked-problem}
 use Rattle.layout.specs.declared.LayoutAnswer.{LayoutAnswer}
 use Rattle.layout.specs.declared.LayoutAnswer.the-variants.{Fits, Refused}
 use Rattle.layout.specs.Answers.{layoutAnswer, refusalIn}
@@ -41,31 +41,6 @@ module _ (p : Problem) (layout : List ℕ) where
   unfolding judgeBound
   bad-problem x e = ap (λ (v : Verdict). andThen v (judgeLayout p layout)) e
 
-  -- The numbers l are the problem's, and the layout was judged on them.
-  module _ (good : judgeProblem p ≡ verdict.Accepted) (l : List ℕ) (own : problemOf l ≡ p) (a : LayoutAnswer)
-      (judged : a ≡ layoutAnswer (judgeLayout (problemOf l) layout) (needOf (problemOf l) layout)) where
-    then-layout : judgeBound p layout ≡ judgeLayout p layout
-    unfolding judgeBound
-    then-layout = ap (λ (v : Verdict). andThen v (judgeLayout p layout)) good
-
-    is : layoutAnswer (judgeLayout p layout) (needOf p layout) ≡ a
-    is = sym (subst (λ (q : Problem). a ≡ layoutAnswer (judgeLayout q layout) (needOf q layout)) own judged)
-
-    pub bad-layout : (r x : Refusal) → a ≡ Refused r → x ≡ refusalIn a → judgeBound p layout ≡ verdict.Refused x
-    unfolding refusalIn
-    bad-layout r x e q = then-layout ∙ at (judgeLayout p layout) (is ∙ e) ∙ ap verdict.Refused (sym (q ∙ ap refusalIn e))
-      where
-        at : (v : Verdict) → layoutAnswer v (needOf p layout) ≡ Refused r → v ≡ verdict.Refused r
-        at verdict.Accepted z = let w : _≡_ {A = ℕ} 0 1 = cc in let x : ⊥ = omega arith in elim x [ ]
-        at (verdict.Refused f) z = let same : f ≡ r = cc in ap verdict.Refused same
-
-    pub good-layout : (need : Bytes) → a ≡ Fits need → (judgeBound p layout ≡ verdict.Accepted) × (need .0 ≡ needOf p layout)
-    good-layout need e = at (judgeLayout p layout) refl (is ∙ e)
-      where
-        at : (v : Verdict) → judgeLayout p layout ≡ v → layoutAnswer v (needOf p layout) ≡ Fits need → (judgeBound p layout ≡ verdict.Accepted) × (need .0 ≡ needOf p layout)
-        at verdict.Accepted q z = let same : bytes (needOf p layout) ≡ need = cc in (then-layout ∙ q, ap (λ (b : Bytes). b .0) (sym same))
-        at (verdict.Refused r) q z = let w : _≡_ {A = ℕ} 0 1 = cc in let x : ⊥ = omega arith in elim x [ ]
-
   -- Where nothing was refused, every function has one of the 32 regions.
   pub regions-known : judgeBound p layout ≡ verdict.Accepted → (f : ℕ) → f < p .«function_count» → regionOf layout f < 32
   unfolding judgeBound judgeLayout
@@ -77,25 +52,34 @@ module _ (p : Problem) (layout : List ℕ) where
       by-bool (existsBelow (p .«function_count») (λ f. ltb 31 (regionOf layout f))) (λ t. refused-not-accepted (rw t at known)) (λ t. t) in
       omega (arith, ltb-false 31 (regionOf layout f) (none-below (p .«function_count») (λ f. ltb 31 (regionOf layout f)) none f below))
 
--- An operation's first two checks on a problem with the numbers l: the refusal through 13, or what goes on.
-pub record Through (p : Problem) (l layout : List ℕ) (need : Bytes) : Type 0 where
-  pub own : problemOf l ≡ p
-  pub checked : Checked l
-  pub good : judgeBound p layout ≡ verdict.Accepted
-  pub need-is : need .0 ≡ needOf p layout
-
+-- A problem whose own checks refused.
 module _ (p : Problem) (l layout : List ℕ) (numbered : Numbered p l) (f : Fields) (is : f ≡ checkNumbers l) where
   pub refused-early : (r x : Refusal) → f ≡ fields.Refused r → x ≡ Steps.refusalIn f → judgeBound p layout ≡ verdict.Refused x
   refused-early r x e q = bad-problem p layout x (refused-problem p l numbered f is r x e q)
 
-  module _ (size : ℕ) (e : f ≡ fields.Done size) (a : LayoutAnswer) (judged : a ≡ layoutAnswer (judgeLayout (problemOf l) layout) (needOf (problemOf l) layout)) where
-    pub refused-layout : (r x : Refusal) → a ≡ Refused r → x ≡ refusalIn a → judgeBound p layout ≡ verdict.Refused x
-    refused-layout r x q z = bad-layout p layout (accepted-problem p l numbered f is size e) l (same-problem p l numbered f is) a judged r x q z
+-- A layout with checked numbers: the refusal through 13, or the bytes that it needs.
+pub record Through (l layout : List ℕ) (need : Bytes) : Type 0 where
+  pub good : judgeBound (problemOf l) layout ≡ verdict.Accepted
+  pub need-is : need .0 ≡ needOf (problemOf l) layout
 
-    pub through : (need : Bytes) → a ≡ Fits need → Through p l layout need
-    through need q =
-        let rest = good-layout p layout (accepted-problem p l numbered f is size e) l (same-problem p l numbered f is) a judged need q in
-        record { own = same-problem p l numbered f is; checked = opened p l numbered f is size e; good = rest .0; need-is = rest .1 }
+module _ (l layout : List ℕ) (ok : Checked l) (a : LayoutAnswer) (judged : a ≡ layoutAnswer (judgeLayout (problemOf l) layout) (needOf (problemOf l) layout)) where
+  then-layout : judgeBound (problemOf l) layout ≡ judgeLayout (problemOf l) layout
+  unfolding judgeBound
+  then-layout = ap (λ (v : Verdict). andThen v (judgeLayout (problemOf l) layout)) (checked-problem l ok)
 
-pub need-own : {p : Problem} {l layout : List ℕ} {need : Bytes} → Through p l layout need → need .0 ≡ needOf (problemOf l) layout
-need-own {layout = layout} {need = need} t = subst (λ (q : Problem). need .0 ≡ needOf q layout) (sym (t .own)) (t .need-is)
+  pub refused-layout : (r x : Refusal) → a ≡ Refused r → x ≡ refusalIn a → judgeBound (problemOf l) layout ≡ verdict.Refused x
+  unfolding refusalIn
+  refused-layout r x e q = then-layout ∙ at (judgeLayout (problemOf l) layout) (sym judged ∙ e) ∙ ap verdict.Refused (sym (q ∙ ap refusalIn e))
+    where
+      at : (v : Verdict) → layoutAnswer v (needOf (problemOf l) layout) ≡ Refused r → v ≡ verdict.Refused r
+      at verdict.Accepted z = let w : _≡_ {A = ℕ} 0 1 = cc in absurd (omega arith)
+      at (verdict.Refused f) z = let same : f ≡ r = cc in ap verdict.Refused same
+
+  pub through : (need : Bytes) → a ≡ Fits need → Through l layout need
+  through need e = at (judgeLayout (problemOf l) layout) refl (sym judged ∙ e)
+    where
+      at : (v : Verdict) → judgeLayout (problemOf l) layout ≡ v → layoutAnswer v (needOf (problemOf l) layout) ≡ Fits need → Through l layout need
+      at verdict.Accepted q z =
+          let same : bytes (needOf (problemOf l) layout) ≡ need = cc in
+          record { good = then-layout ∙ q; need-is = ap (λ (b : Bytes). b .0) (sym same) }
+      at (verdict.Refused r) q z = let w : _≡_ {A = ℕ} 0 1 = cc in absurd (omega arith)

@@ -18,7 +18,7 @@ use Rattle.model.specs.declared.WriteAnswer.{WriteAnswer}
 use Rattle.model.specs.declared.WriteAnswer.the-variants as write
 use Rattle.model.specs.Zero.{zeroProblem}
 use Rattle.model.specs.Numbers.{numbersOf, problemOf}
-use Rattle.model.specs.File.{readFields, checkFields, fileBytes, cleared}
+use Rattle.model.specs.File.{numberCount, readFields, checkFields, fileBytes, cleared}
 use Rattle.model.specs.Graph.{functionsOf, verticesOf, edgesOf, loopsOf, judgeGraph}
 
 -- Read's answer; beside a refusal the problem is all zero.
@@ -69,6 +69,7 @@ checkProblem p = afterFields (checkFields (numbersOf p)) p
 
 -- A problem's numbers that passed these checks, for what goes on with the good case.
 pub record Checked (l : List ℕ) : Type 0 where
+  pub size : length l ≡ numberCount
   pub need : ℕ
   pub fields : checkFields l ≡ fields.Done need
   pub graph : judgeGraph (problemOf l) ≡ verdict.Accepted

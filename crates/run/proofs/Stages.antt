@@ -1,6 +1,6 @@
 -- Run's answer is what its definition says for the stage that it stops at.
 use Prim.Native.Nat.{ℕ, _≤_, _<_}
-use mathlib.Core.Path.{_≡_, sym, ap, _∙_, subst}
+use mathlib.Core.Path.{_≡_, sym, ap, _∙_}
 use mathlib.Core.List.{List, [], reverse}
 use mathlib.Core.Bool.{cond}
 use lib.ListN.{length}
@@ -17,7 +17,6 @@ use Rattle.model.specs.declared.RunAnswer.{RunAnswer}
 use Rattle.model.specs.Refusals.{refusalIn}
 use Rattle.model.specs.Numbers.{problemOf}
 use Rattle.model.specs.Operations.{Checked}
-use Rattle.model.specs.Layouts.{regionOf}
 use Rattle.model.specs.Graph.{andThen}
 use Rattle.model.specs.Verdicts.{walkLimit, judgeBound, judgeWalk, judgeRun}
 use Rattle.model.specs.Results.{runAfter, runWalk}
@@ -42,26 +41,22 @@ module _ (p : Problem) (layout walk : List ℕ) where
     pub too-long : walkLimit < length walk → (a : RunAnswer) → a ≡ notRun (LongWalk walkLimit) → a ≡ runWalk p layout walk
     too-long h a q = q ∙ answered (Refused (LongWalk walkLimit)) (then-walk ∙ (simp (lt-ltb walkLimit (length walk) h)))
 
-    module _ (short : length walk ≤ walkLimit) (l : List ℕ) (own : problemOf l ≡ p) (v : Verdict) (judged : v ≡ judgeWalk (problemOf l) [] 0 walk) where
+    module _ (short : length walk ≤ walkLimit) (v : Verdict) (judged : v ≡ judgeWalk p [] 0 walk) where
       entries : judgeRun p layout walk ≡ v
-      entries = then-walk ∙ (simp (le-ltb walkLimit (length walk) short)) ∙ sym (subst (λ (q : Problem). v ≡ judgeWalk q [] 0 walk) own judged)
+      entries = then-walk ∙ (simp (le-ltb walkLimit (length walk) short)) ∙ sym judged
 
       pub bad-entry : (r x : Refusal) → v ≡ Refused r → x ≡ refusalIn v → (a : RunAnswer) → a ≡ notRun x → a ≡ runWalk p layout walk
       unfolding refusalIn
       bad-entry r x e q a z = z ∙ answered (Refused x) (entries ∙ e ∙ ap Refused (sym (q ∙ ap refusalIn e)))
 
       module _ (whole : v ≡ Accepted) where
-        pub runnable : Checked l → Runnable l layout walk
-        runnable checked =
-            record {
-              checked = checked;
-              regions = subst (λ (q : Problem). (f : ℕ) → f < q .«function_count» → regionOf layout f < 32) (sym own) (regions-known p layout good);
-              short = short;
-              accepted = sym judged ∙ whole;
-            }
-
-        pub ran : (held : List ℕ) (r : Run) → Ran (problemOf l) layout (reverse walk) held r → record { verdict = run.Ran r; held = held } ≡ runWalk p layout walk
+        pub ran : (held : List ℕ) (r : Run) → Ran p layout (reverse walk) held r → record { verdict = run.Ran r; held = held } ≡ runWalk p layout walk
         ran held r is =
-            let own-run : Ran p layout (reverse walk) held r = subst (λ (q : Problem). Ran q layout (reverse walk) held r) own is in
-            (λ i. record { verdict = run.Ran (record { cycles = record { 0 = own-run .cycles-are i }; loads = own-run .loads-are i }); held = own-run .held-are i })
+            (λ i. record { verdict = run.Ran (record { cycles = record { 0 = is .cycles-are i }; loads = is .loads-are i }); held = is .held-are i })
             ∙ answered Accepted (entries ∙ whole)
+
+-- A walk that was judged good on checked numbers can be run.
+pub runnable : (l layout walk : List ℕ) → Checked l → judgeBound (problemOf l) layout ≡ Accepted → length walk ≤ walkLimit →
+    (v : Verdict) → v ≡ judgeWalk (problemOf l) [] 0 walk → v ≡ Accepted → Runnable l layout walk
+runnable l layout walk checked good short v judged whole =
+    record { checked = checked; regions = regions-known (problemOf l) layout good; short = short; accepted = sym judged ∙ whole }

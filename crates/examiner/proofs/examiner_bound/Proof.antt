@@ -7,8 +7,8 @@ use borrow.Author.Needs.{needs}
 use Rattle.examiner.proofs.examiner_bound.Statement.{statement}
 use Rattle.examiner.proofs.examiner_bound.Tie as tie
 
-read-requires : tie.Need-read-requires
-read-requires c κs = search needs
+read-numbers-requires : tie.Need-read-numbers-requires
+read-numbers-requires c κs = search needs
 
 enum-told : tie.Need-enum-told
 enum-told c = search needs
@@ -23,27 +23,26 @@ refuse-requires : tie.Need-refuse-requires
 refuse-requires c κs = search needs
 
 returns : tie.Need-returns
-returns c =
-    let o = Refusing (c .before .before .refusal-in .result) in
+returns c = let o = Refusing (c .before .before .refusal-in .result) in
     record {
       outcome = o;
-      says = right-refused (λ p. IsBounded p (c .before .before .before .before .before .before .before .before .args .layout .now) o) (λ f. o ≡ Refusing f) _ _ (c .before .before .before .before .before .read .ensures) _ _ (c .before .before .before .enum-told2 .given .1) (c .before .before .refusal-in .ensures) refl;
+      says = right-refused _ _ _ (c .before .before .before .before .before .read-numbers .ensures) (λ p. IsBounded p (c .before .before .before .before .before .before .before .before .before .args .layout .now) o) (λ f. o ≡ Refusing f) _ _ (c .before .before .before .enum-told2 .given .1) (c .before .before .refusal-in .ensures) refl;
       status-is = c .refuse .ensures .0;
       answer-is = c .refuse .ensures .1;
     }
 
-bound-requires : tie.Need-bound-requires
-bound-requires c κs = search needs
+bound-checked-requires : tie.Need-bound-checked-requires
+bound-checked-requires c κs = c .before .before .before .read-numbers .ensures .checked (c .before .enum-told .given .1)
 
 tell-bounded-requires : tie.Need-tell-bounded-requires
 tell-bounded-requires c κs = search needs
 
 returns-2 : tie.Need-returns-2
-returns-2 c =
-    let o = onBounded (c .before .before .bound .result) in
+returns-2 c = let b = c .before .before .bound-checked in
+    let o = onBounded (b .result) in
     record {
       outcome = o;
-      says = right-on (λ p. IsBounded p (c .before .before .before .before .before .before .before .before .args .layout .now) o) (λ f. o ≡ Refusing f) _ _ (c .before .before .before .before .before .read .ensures) (c .before .before .before .enum-told .given .1) (c .before .before .bound .result, c .before .before .bound .ensures, refl);
+      says = right-on _ _ _ (c .before .before .before .before .before .before .read-numbers .ensures) (λ p. IsBounded p (c .before .before .before .before .before .before .before .before .before .before .args .layout .now) o) (λ f. o ≡ Refusing f) (c .before .before .before .before .enum-told .given .1) (b .result, b .ensures, refl);
       status-is = c .tell-bounded .ensures .0;
       answer-is = c .tell-bounded .ensures .1;
     }
@@ -52,12 +51,12 @@ pub examiner-bound-spec : {M : Type 1} → statement M
 examiner-bound-spec =
     tie.close
     (tie.spec
-    read-requires
+    read-numbers-requires
     enum-told
     enum-told-2
     refusal-in-requires
     refuse-requires
     returns
-    bound-requires
+    bound-checked-requires
     tell-bounded-requires
     returns-2)

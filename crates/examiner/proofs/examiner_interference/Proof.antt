@@ -7,8 +7,8 @@ use borrow.Author.Needs.{needs}
 use Rattle.examiner.proofs.examiner_interference.Statement.{statement}
 use Rattle.examiner.proofs.examiner_interference.Tie as tie
 
-read-requires : tie.Need-read-requires
-read-requires c κs = search needs
+read-numbers-requires : tie.Need-read-numbers-requires
+read-numbers-requires c κs = search needs
 
 enum-told : tie.Need-enum-told
 enum-told c = search needs
@@ -23,18 +23,17 @@ refuse-requires : tie.Need-refuse-requires
 refuse-requires c κs = search needs
 
 returns : tie.Need-returns
-returns c =
-    let words = c .before .before .before .before .before .before .before .before .args .words .now in
+returns c = let words = c .before .before .before .before .before .before .before .before .before .args .words .now in
     let o = Refusing (c .before .before .refusal-in .result) in
     record {
       outcome = o;
-      says = right-refused (λ p. FillsWords p words words o) (λ f. (o ≡ Refusing f) × (words ≡ words)) _ _ (c .before .before .before .before .before .read .ensures) _ _ (c .before .before .before .enum-told2 .given .1) (c .before .before .refusal-in .ensures) (refl, refl);
+      says = right-refused _ _ _ (c .before .before .before .before .before .read-numbers .ensures) (λ p. FillsWords p words words o) (λ f. (o ≡ Refusing f) × (words ≡ words)) _ _ (c .before .before .before .enum-told2 .given .1) (c .before .before .refusal-in .ensures) (refl, refl);
       status-is = c .refuse .ensures .0;
       answer-is = c .refuse .ensures .1;
     }
 
-interference-requires : tie.Need-interference-requires
-interference-requires c κs = search needs
+interference-checked-requires : tie.Need-interference-checked-requires
+interference-checked-requires c κs = c .before .before .before .before .read-numbers .ensures .checked (c .before .before .enum-told .given .1)
 
 tell-filled-requires : tie.Need-tell-filled-requires
 tell-filled-requires c κs = search needs
@@ -43,13 +42,13 @@ same-length : tie.Need-same-length
 same-length c = search needs
 
 returns-2 : tie.Need-returns-2
-returns-2 c =
-    let words = c .before .before .before .before .before .before .before .before .before .before .before .args .words .now in
-    let after = c .before .before .before .before .interference .last .1 .0 in
-    let o = onFilled (c .before .before .before .before .interference .result) in
+returns-2 c = let words = c .before .before .before .before .before .before .before .before .before .before .before .before .before .args .words .now in
+    let i = c .before .before .before .before .interference-checked in
+    let after = i .last .1 .0 in
+    let o = onFilled (i .result) in
     record {
       outcome = o;
-      says = right-on (λ p. FillsWords p words after o) (λ f. (o ≡ Refusing f) × (after ≡ words)) _ _ (c .before .before .before .before .before .before .before .before .read .ensures) (c .before .before .before .before .before .before .enum-told .given .1) (c .before .before .before .before .interference .result, c .before .before .before .before .interference .ensures, refl);
+      says = right-on _ _ _ (c .before .before .before .before .before .before .before .before .before .read-numbers .ensures) (λ p. FillsWords p words after o) (λ f. (o ≡ Refusing f) × (after ≡ words)) (c .before .before .before .before .before .before .before .enum-told .given .1) (i .result, i .ensures, refl);
       status-is = c .tell-filled .ensures .0;
       answer-is = c .tell-filled .ensures .1;
     }
@@ -58,13 +57,13 @@ pub examiner-interference-spec : {M : Type 1} → statement M
 examiner-interference-spec =
     tie.close
     (tie.spec
-    read-requires
+    read-numbers-requires
     enum-told
     enum-told-2
     refusal-in-requires
     refuse-requires
     returns
-    interference-requires
+    interference-checked-requires
     tell-filled-requires
     same-length
     returns-2)

@@ -5,8 +5,8 @@ use borrow.Author.Needs.{needs}
 use Rattle.examiner.proofs.examiner_read.Statement.{statement}
 use Rattle.examiner.proofs.examiner_read.Tie as tie
 
-read-requires : tie.Need-read-requires
-read-requires c κs = search needs
+read-numbers-requires : tie.Need-read-numbers-requires
+read-numbers-requires c κs = search needs
 
 enum-told : tie.Need-enum-told
 enum-told c = search needs
@@ -21,10 +21,8 @@ refuse-requires : tie.Need-refuse-requires
 refuse-requires c κs = search needs
 
 returns : tie.Need-returns
-returns c =
-    let r = c .before .before .before .before .before .read in
-    told _ _ _ _ _
-    (stands (λ p. Results (counts p)) Refusing _ _ (r .ensures) _ _ (c .before .before .before .enum-told2 .given .1) (c .before .before .refusal-in .ensures))
+returns c = told _ _ _ _ _
+    (stands _ _ _ (c .before .before .before .before .before .read-numbers .ensures) (λ p. Results (counts p)) Refusing _ _ (c .before .before .before .enum-told2 .given .1) (c .before .before .refusal-in .ensures))
     (c .refuse .ensures .0)
     (c .refuse .ensures .1)
 
@@ -32,10 +30,8 @@ tell-counts-requires : tie.Need-tell-counts-requires
 tell-counts-requires c κs = search needs
 
 returns-2 : tie.Need-returns-2
-returns-2 c =
-    let r = c .before .before .before .before .read in
-    told _ _ _ _ _
-    (goes-on (λ p. Results (counts p)) Refusing _ _ (r .ensures) (c .before .before .enum-told .given .1))
+returns-2 c = told _ _ _ _ _
+    (goes-on _ _ _ (c .before .before .before .before .before .read-numbers .ensures) (λ p. Results (counts p)) Refusing (c .before .before .before .enum-told .given .1))
     (c .tell-counts .ensures .0)
     (c .tell-counts .ensures .1)
 
@@ -43,7 +39,7 @@ pub examiner-read-spec : {M : Type 1} → statement M
 examiner-read-spec =
     tie.close
     (tie.spec
-    read-requires
+    read-numbers-requires
     enum-told
     enum-told-2
     refusal-in-requires

@@ -1,5 +1,5 @@
 -- `tell_bounded` meets its contract, for a refusal and for a bound.
-use mathlib.Core.Path.{refl, sym, ap}
+use mathlib.Core.Path.{sym, ap}
 use Rattle.examiner.specs.Outcomes.{onBounded}
 use Rattle.examiner.proofs.Told.{told}
 use borrow.Author.Needs.{needs}
@@ -15,23 +15,14 @@ refuse-requires c κs = search needs
 enum-known-bounded-2 : tie.Need-enum-known-bounded-2
 enum-known-bounded-2 c = search needs
 
-element-write-answer : tie.Need-element-write-answer
-element-write-answer c = search needs
-
-element-write-answer-2 : tie.Need-element-write-answer-2
-element-write-answer-2 c = search needs
-
-element-write-answer-3 : tie.Need-element-write-answer-3
-element-write-answer-3 c = search needs
-
-element-write-answer-4 : tie.Need-element-write-answer-4
-element-write-answer-4 c = search needs
+tell-four-requires : tie.Need-tell-four-requires
+tell-four-requires c κs = search needs
 
 returns : tie.Need-returns
 returns c = told _ _ _ _ _ (ap onBounded (sym (c .before .before .before .bounded .given .1))) (c .refuse .ensures .0) (c .refuse .ensures .1)
 
 returns-2 : tie.Need-returns-2
-returns-2 c = told _ _ _ _ _ (ap onBounded (sym (c .before .bounded2 .given .1))) refl refl
+returns-2 c = told _ _ _ _ _ (ap onBounded (sym (c .before .before .before .bounded2 .given .1))) (c .tell-four .ensures .0) (c .tell-four .ensures .1)
 
 pub tell-bounded-spec : {M : Type 1} → statement M
 tell-bounded-spec =
@@ -40,9 +31,6 @@ tell-bounded-spec =
     enum-known-bounded
     refuse-requires
     enum-known-bounded-2
-    element-write-answer
-    element-write-answer-2
-    element-write-answer-3
-    element-write-answer-4
+    tell-four-requires
     returns
     returns-2)
