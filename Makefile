@@ -1,4 +1,4 @@
-.PHONY: test staticlib reference compare bench samples header
+.PHONY: test run staticlib reference compare bench samples header
 
 # The exports that the static library has beside those for files, as EXPORTS=interference,bound; EXPORTS=library for none.
 EXPORTS = interference,bound,run
@@ -6,6 +6,16 @@ EXPORTS = interference,bound,run
 # The gate.
 test:
 	.ci/run
+
+# The program marksheet, proved and built as target/bin/marksheet, on a sample and its layout; then its slip in words. SAMPLE=q takes another sample.
+SAMPLE = p
+run:
+	@echo "Proving and building marksheet: some minutes the first time."
+	@mkdir -p target
+	@rt check marksheet 2>&1 | tee target/run.log | grep '^rt: '
+	@grep -q '^rt: ok' target/run.log || { tail -n 20 target/run.log; exit 1; }
+	@echo
+	@samples/slip $(SAMPLE)
 
 # The static library for other programs, proved and built: target/staticlib/libexaminer.a
 staticlib:
