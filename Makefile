@@ -1,7 +1,4 @@
-.PHONY: test run staticlib reference compare bench samples header
-
-# The exports that the static library has beside those for files, as EXPORTS=interference,bound; EXPORTS=library for none.
-EXPORTS = interference,bound,run
+.PHONY: test run staticlib compare bench samples header
 
 # The gate.
 test:
@@ -21,18 +18,13 @@ run:
 staticlib:
 	rt staticlib examiner
 
-# The independent implementation held to itself; needs no static library.
-reference:
-	cargo test -p reference -p examiner-tests --no-default-features
-
 # The library held to the independent implementation. CASES=10 tries ten times as many cases.
 compare: staticlib header
-	cargo test -p reference -p examiner --no-default-features
-	cargo test -p examiner-tests --no-default-features --features $(EXPORTS)
+	cargo test --workspace
 
 # The library's speed against the independent implementation's.
 bench: staticlib
-	cargo run --release -p examiner-tests --no-default-features --features $(EXPORTS) --bin bench
+	cargo run --release -p examiner-tests --bin bench
 
 # The bundled samples, written anew.
 samples:

@@ -140,7 +140,6 @@ impl Comparison {
         assert_eq!((&out, &wrapper_out, &lent), (&wanted, &wanted, &before));
     }
 
-    #[cfg(feature = "interference")]
     fn interference(&mut self, file: &[u8], length: usize) {
         self.asked = Asked { file: file.to_vec(), ..Asked::default() };
         let lent = Lent::holding(&mut self.random, file);
@@ -158,7 +157,6 @@ impl Comparison {
         assert_eq!((&words, &wrapper_words, &lent), (&wanted, &wanted, &before));
     }
 
-    #[cfg(feature = "bound")]
     fn bound(&mut self, file: &[u8], layout: &[u8]) -> Option<u64> {
         self.asked = Asked { file: file.to_vec(), layout: layout.to_vec(), ..Asked::default() };
         let (lent, lent_layout) = (Lent::holding(&mut self.random, file), Lent::holding(&mut self.random, layout));
@@ -182,7 +180,6 @@ impl Comparison {
         bound.ok().map(|bound| bound.bound)
     }
 
-    #[cfg(feature = "run")]
     fn run(&mut self, file: &[u8], layout: &[u8], walk: &[u32]) -> Option<u64> {
         self.asked = Asked { file: file.to_vec(), layout: layout.to_vec(), walk: walk.to_vec(), ..Asked::default() };
         let (lent, lent_layout) = (Lent::holding(&mut self.random, file), Lent::holding(&mut self.random, layout));
@@ -216,19 +213,6 @@ impl Comparison {
         assert_eq!((lent, lent_layout, lent_walk), before);
         self.saw("a lawful walk with a load of cost 0", run.as_ref().is_ok_and(|run| run.loads > 0 && run.cycles == 0));
         run.ok().map(|run| run.cycles)
-    }
-
-    #[cfg(not(feature = "interference"))]
-    fn interference(&mut self, _: &[u8], _: usize) {}
-
-    #[cfg(not(feature = "bound"))]
-    fn bound(&mut self, _: &[u8], _: &[u8]) -> Option<u64> {
-        None
-    }
-
-    #[cfg(not(feature = "run"))]
-    fn run(&mut self, _: &[u8], _: &[u8], _: &[u32]) -> Option<u64> {
-        None
     }
 
     /// Bound and Run with one layout and one walk. Where both give their results, no run is longer than the bound.
@@ -667,11 +651,8 @@ fn empty_slices(c: &mut Comparison) {
         let fields = p().to_fields();
         let needed = file_of(&p()).len() as u64;
         c.call("examiner_write_fields", &refused(10, needed), |answer| raw::examiner_write_fields(fields.as_ptr(), null_mut(), 0, answer));
-        #[cfg(feature = "interference")]
         c.call("examiner_interference", &refused(10, 1), |answer| raw::examiner_interference(M10.as_ptr(), 10, null_mut(), 0, answer));
-        #[cfg(feature = "bound")]
         c.call("examiner_bound", &Ok(vec![8, 0, 5, 15]), |answer| raw::examiner_bound(M10.as_ptr(), 10, null(), 0, answer));
-        #[cfg(feature = "run")]
         {
             let mut held = [7; 32];
             let place = held.as_mut_ptr();
@@ -727,21 +708,11 @@ fn main() {
         println!("{times:9}  {what}");
     }
 
-    let mut wanted: Vec<usize> = (0..=10).collect();
-    if cfg!(any(feature = "bound", feature = "run")) {
-        wanted.extend(11..=13);
-    }
-    if cfg!(feature = "bound") {
-        wanted.push(14);
-    }
-    if cfg!(feature = "run") {
-        wanted.extend(15..=17);
-    }
-    for number in &wanted {
-        assert!(comparison.met[*number] > 0, "refusal {number} was never met");
+    for (number, times) in comparison.met.iter().enumerate() {
+        assert!(*times > 0, "refusal {number} was never met");
     }
     for (what, times) in &comparison.seen {
         assert!(*times > 0, "there was never {what}");
     }
-    println!("\n{} calls agree; refusals met: {} of 17", comparison.calls.values().sum::<usize>(), wanted.len() - 1);
+    println!("\n{} calls agree; every refusal from 1 to 17 was met", comparison.calls.values().sum::<usize>());
 }

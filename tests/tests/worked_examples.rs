@@ -1,5 +1,4 @@
 //! M1 to M10 of document 01, asked of the library through the safe wrapper, and the wrapper's own forms.
-#![cfg(feature = "library")]
 
 use examiner::{Edge, Fields, Function, Loop, Refusal, RefusalKind, Vertex};
 use reference::examples::M10;
@@ -77,7 +76,6 @@ fn records_have_a_limited_number_of_places() {
     assert_eq!(refusal, Refusal { number: RefusalKind::OutOfRange, place: 1 });
 }
 
-#[cfg(feature = "interference")]
 #[test]
 fn m1_own_sets_of_p() {
     let mut words = [u32::MAX; 22];
@@ -87,7 +85,6 @@ fn m1_own_sets_of_p() {
     assert_eq!(words[21], u32::MAX);
 }
 
-#[cfg(feature = "bound")]
 mod bounds {
     use super::*;
     use examiner::{bound, Bound};
@@ -125,7 +122,6 @@ mod bounds {
     }
 }
 
-#[cfg(feature = "run")]
 mod runs {
     use super::*;
     use examiner::run;

@@ -39,7 +39,6 @@ pub struct Counts {
 }
 
 /// What a layout needs, and the worst-case time that it gives.
-#[cfg(feature = "bound")]
 #[derive(Clone, Copy, Debug, PartialEq, Eq, Hash)]
 pub struct Bound {
     /// The bytes needed: for each region used, the size of its largest function, all added.
@@ -53,7 +52,6 @@ pub struct Bound {
 }
 
 /// What the simulated run of a walk took, and what it left loaded.
-#[cfg(feature = "run")]
 #[derive(Clone, Copy, Debug, PartialEq, Eq, Hash)]
 pub struct Run {
     /// The simulated cycles.
@@ -123,7 +121,6 @@ pub fn write_fields(fields: &Fields, out: &mut [u8]) -> Result<usize, Refusal> {
 ///
 /// # Errors
 /// As [`read`]; then [`BufferTooShort`](RefusalKind::BufferTooShort).
-#[cfg(feature = "interference")]
 pub fn interference(file: &[u8], words: &mut [u32]) -> Result<usize, Refusal> {
     let mut answer = [0; 4];
     // SAFETY: the slices and `answer` are valid for the call; what is written to is borrowed for it alone.
@@ -136,7 +133,6 @@ pub fn interference(file: &[u8], words: &mut [u32]) -> Result<usize, Refusal> {
 /// # Errors
 /// As [`read`]; then [`LayoutTooLong`](RefusalKind::LayoutTooLong), [`UnknownRegion`](RefusalKind::UnknownRegion),
 /// [`ScratchpadTooSmall`](RefusalKind::ScratchpadTooSmall) and [`BoundTooLarge`](RefusalKind::BoundTooLarge).
-#[cfg(feature = "bound")]
 pub fn bound(file: &[u8], layout: &[u8]) -> Result<Bound, Refusal> {
     let mut answer = [0; 4];
     // SAFETY: the slices and `answer` are valid for the call, and `answer` is apart.
@@ -150,7 +146,6 @@ pub fn bound(file: &[u8], layout: &[u8]) -> Result<Bound, Refusal> {
 /// # Errors
 /// As `bound` but for [`BoundTooLarge`](RefusalKind::BoundTooLarge); then [`WalkTooLong`](RefusalKind::WalkTooLong); then
 /// [`WrongStep`](RefusalKind::WrongStep) or [`BeyondBound`](RefusalKind::BeyondBound) at the first bad position.
-#[cfg(feature = "run")]
 pub fn run(file: &[u8], layout: &[u8], walk: &[u32]) -> Result<Run, Refusal> {
     const NONE: u8 = 255;
     let mut answer = [0; 4];

@@ -12,15 +12,12 @@ extern "C" {
     pub fn examiner_write(file: *const u8, file_length: usize, out: *mut u8, out_length: usize, answer: *mut u64) -> u32;
 
     /// Interference.
-    #[cfg(feature = "interference")]
     pub fn examiner_interference(file: *const u8, file_length: usize, words: *mut u32, words_length: usize, answer: *mut u64) -> u32;
 
     /// Bound.
-    #[cfg(feature = "bound")]
     pub fn examiner_bound(file: *const u8, file_length: usize, layout: *const u8, layout_length: usize, answer: *mut u64) -> u32;
 
     /// Run.
-    #[cfg(feature = "run")]
     pub fn examiner_run(
         file: *const u8,
         file_length: usize,

@@ -59,7 +59,6 @@ struct Subject {
     name: String,
     problem: Problem,
     file: Vec<u8>,
-    #[cfg_attr(not(any(feature = "bound", feature = "run")), allow(dead_code))]
     layout: Vec<u8>,
 }
 
@@ -101,16 +100,13 @@ fn largest() -> Plan {
     }
 }
 
-/// The median times of the library and of the reference; nothing for an export that is left out.
-type Times = Option<(f64, f64)>;
+/// The median times of the library and of the reference.
+type Times = (f64, f64);
 
 fn read(subject: &Subject) -> Times {
-    Some(measure(&mut || _ = black_box(examiner::read(black_box(&subject.file))), &mut || {
-        _ = black_box(fast::read(black_box(&subject.file)))
-    }))
+    measure(&mut || _ = black_box(examiner::read(black_box(&subject.file))), &mut || _ = black_box(fast::read(black_box(&subject.file))))
 }
 
-#[cfg(feature = "interference")]
 fn interference(subject: &Subject) -> Times {
     let mut library_words = vec![0u32; MOST_VERTICES * MOST_FUNCTIONS];
     let mut reference_words = library_words.clone();
@@ -119,53 +115,34 @@ fn interference(subject: &Subject) -> Times {
             _ = black_box(fast::interference(black_box(&subject.file), black_box(&mut reference_words)))
         });
     assert_eq!(library_words, reference_words);
-    Some(times)
+    times
 }
 
-#[cfg(not(feature = "interference"))]
-fn interference(_: &Subject) -> Times {
-    None
-}
-
-#[cfg(feature = "bound")]
 fn bound(subject: &Subject) -> Times {
     let library = examiner::bound(&subject.file, &subject.layout).expect("accepted").bound;
     assert_eq!(library, fast::bound(&subject.file, &subject.layout).expect("accepted").bound);
-    Some(measure(&mut || _ = black_box(examiner::bound(black_box(&subject.file), black_box(&subject.layout))), &mut || {
+    measure(&mut || _ = black_box(examiner::bound(black_box(&subject.file), black_box(&subject.layout))), &mut || {
         _ = black_box(fast::bound(black_box(&subject.file), black_box(&subject.layout)))
-    }))
+    })
 }
 
-#[cfg(not(feature = "bound"))]
-fn bound(_: &Subject) -> Times {
-    None
-}
-
-#[cfg(feature = "run")]
 fn run(subject: &Subject) -> Times {
     let (problem, walk) = long_walk(&subject.problem).expect("the problem was chosen for it");
     let file = file_of(&problem);
     let library = examiner::run(&file, &subject.layout, &walk).expect("lawful");
     assert_eq!(library.cycles, fast::run(&file, &subject.layout, &walk).expect("lawful").cycles);
-    Some(measure(&mut || _ = black_box(examiner::run(black_box(&file), black_box(&subject.layout), black_box(&walk))), &mut || {
+    measure(&mut || _ = black_box(examiner::run(black_box(&file), black_box(&subject.layout), black_box(&walk))), &mut || {
         _ = black_box(fast::run(black_box(&file), black_box(&subject.layout), black_box(&walk)))
-    }))
+    })
 }
 
-#[cfg(not(feature = "run"))]
-fn run(_: &Subject) -> Times {
-    None
+fn row(operation: &str, subject: &Subject, (library, reference): Times, note: impl Fn(f64, f64) -> String) {
+    let (ratio, note) = (library / reference, note(library, reference));
+    println!("| {operation} | {} | {} | {} | {ratio:.2} | {note} |", subject.name, micros(library), micros(reference));
 }
 
-fn row(operation: &str, subject: &Subject, times: Times, note: impl Fn(f64, f64) -> String) {
-    if let Some((library, reference)) = times {
-        let (ratio, note) = (library / reference, note(library, reference));
-        println!("| {operation} | {} | {} | {} | {ratio:.2} | {note} |", subject.name, micros(library), micros(reference));
-    }
-}
-
-fn cell(times: Times) -> String {
-    times.map_or("not there".to_string(), |(library, reference)| format!("{} ({:.2})", micros(library), library / reference))
+fn cell((library, reference): Times) -> String {
+    format!("{} ({:.2})", micros(library), library / reference)
 }
 
 fn main() {
