@@ -78,7 +78,7 @@ module _ (p : Problem) where
   abbrev beyond : List ℕ → ℕ → Loop → Bool
   beyond h v o = eqb (o .header) v && ltb (o .bound) (visits o (v ∷ h))
 
-  stays : (h : List ℕ) (v : ℕ) → pastBound p h v ≡ false → (o : Loop) → List·Memᴰ o (loopsOf p) → o .header ≡ v → visits o (v ∷ h) ≤ o .bound
+  pub stays : (h : List ℕ) (v : ℕ) → pastBound p h v ≡ false → (o : Loop) → List·Memᴰ o (loopsOf p) → o .header ≡ v → visits o (v ∷ h) ≤ o .bound
   unfolding pastBound
   stays h v bounded o m e =
       let r = index-of zeroLoop m in
@@ -119,7 +119,7 @@ module _ (p : Problem) where
       exists-at (length (edgesOf p)) _ (r .0) (r .1)
       (and-true (eq-eqb _ u (ap (λ (e : Edge). e .from) (r .2))) (eq-eqb _ v (ap (λ (e : Edge). e .to) (r .2))))
 
-  within-bounds : (h : List ℕ) (v : ℕ) → Within (loopsOf p) (v ∷ h) → pastBound p h v ≡ false
+  pub within-bounds : (h : List ℕ) (v : ℕ) → Within (loopsOf p) (v ∷ h) → pastBound p h v ≡ false
   unfolding pastBound Within
   within-bounds h v within =
       exists-nowhere (length (loopsOf p)) (λ i. beyond h v (loop (loopsOf p) i))
