@@ -1,0 +1,7 @@
+pub mod Passed
+pub mod Search
+pub mod Greatest
+pub mod Tables
+pub mod Reading
+pub mod Means
+pub mod Examples

@@ -1,0 +1,4 @@
+pub mod Problems
+pub mod Claims
+pub mod Marks
+pub mod Tests

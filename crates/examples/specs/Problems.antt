@@ -1,0 +1,91 @@
+-- The problems of the worked examples, in document 01's words: P, Q, R, and the one whose file is M10.
+use Prim.Native.Nat.{ℕ, _-_}
+use mathlib.Core.List.{List, [], _∷_, _++_, zipWith}
+use lib.ListN.{length, replicate}
+use Rattle.model.specs.declared.Edge.{Edge}
+use Rattle.model.specs.declared.Loop.{Loop}
+use Rattle.model.specs.declared.Problem.{Problem}
+use Rattle.model.specs.Zero.{bytes, cycles, zeroFunction, zeroVertex, zeroEdge, zeroLoop}
+
+-- Functions by their sizes and load costs, vertices by their functions and own costs.
+pub record Lists : Type 0 where
+  pub sizes : List ℕ
+  pub loads : List ℕ
+  pub functions : List ℕ
+  pub costs : List ℕ
+  pub edges : List Edge
+  pub loops : List Loop
+
+abbrev pub edge : ℕ → ℕ → Edge
+edge from to = record { from = from; to = to }
+
+abbrev pub loop : ℕ → ℕ → ℕ → Loop
+loop header last bound = record { header = header; last = last; bound = bound }
+
+-- A list in an array of n places, every spare place zero.
+unfoldable pub padded : {A : Type 0} → ℕ → A → List A → List A
+padded n none xs = xs ++ replicate (n - length xs) none
+
+unfoldable pub problem : ℕ → Lists → Problem
+problem scratchpad l =
+    record {
+      scratchpad = bytes scratchpad;
+      «function_count» = length (l .sizes);
+      functions = padded 32 zeroFunction (zipWith (λ size load. record { size = bytes size; load = cycles load }) (l .sizes) (l .loads));
+      «vertex_count» = length (l .functions);
+      vertices = padded 128 zeroVertex (zipWith (λ function cost. record { function = function; cost = cycles cost }) (l .functions) (l .costs));
+      «edge_count» = length (l .edges);
+      edges = padded 512 zeroEdge (l .edges);
+      «loop_count» = length (l .loops);
+      loops = padded 32 zeroLoop (l .loops);
+    }
+
+abbrev pub P : ℕ → Problem
+P scratchpad =
+    problem scratchpad
+    (record {
+      sizes = 8 ∷ 4 ∷ 6 ∷ [];
+      loads = 5 ∷ 3 ∷ 4 ∷ [];
+      functions = 0 ∷ 1 ∷ 0 ∷ 2 ∷ 0 ∷ 1 ∷ 0 ∷ [];
+      costs = 10 ∷ 10 ∷ 10 ∷ 10 ∷ 10 ∷ 10 ∷ 10 ∷ [];
+      edges = edge 0 1 ∷ edge 1 2 ∷ edge 2 3 ∷ edge 3 4 ∷ edge 4 5 ∷ edge 5 6 ∷ [];
+      loops = [];
+    })
+
+abbrev pub Q : Problem
+Q =
+    problem 2
+    (record {
+      sizes = 1 ∷ 1 ∷ [];
+      loads = 5 ∷ 3 ∷ [];
+      functions = 0 ∷ 1 ∷ 1 ∷ 0 ∷ [];
+      costs = 10 ∷ 10 ∷ 20 ∷ 10 ∷ [];
+      edges = edge 0 1 ∷ edge 0 2 ∷ edge 1 3 ∷ edge 2 3 ∷ [];
+      loops = [];
+    })
+
+-- R, with its loop's bound.
+abbrev pub R : ℕ → Problem
+R bound =
+    problem 2
+    (record {
+      sizes = 1 ∷ 1 ∷ [];
+      loads = 5 ∷ 3 ∷ [];
+      functions = 0 ∷ 0 ∷ 1 ∷ 0 ∷ [];
+      costs = 1 ∷ 2 ∷ 7 ∷ 1 ∷ [];
+      edges = edge 0 1 ∷ edge 1 2 ∷ edge 1 3 ∷ edge 2 1 ∷ [];
+      loops = loop 1 2 bound ∷ [];
+    })
+
+-- M10's: one vertex of one function.
+abbrev pub single : Problem
+single =
+    problem 8
+    (record {
+      sizes = 8 ∷ [];
+      loads = 5 ∷ [];
+      functions = 0 ∷ [];
+      costs = 10 ∷ [];
+      edges = [];
+      loops = [];
+    })
