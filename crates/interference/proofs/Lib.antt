@@ -6,3 +6,4 @@ pub mod Reached
 pub mod Flows
 pub mod Copies
 pub mod Answers
+pub mod Decided
