@@ -10,7 +10,7 @@ use Rattle.model.specs.Graph.{loopsOf}
 use Rattle.model.specs.Walks.{start, Within, lastVertex, Lawful, Greatest}
 use Rattle.model.specs.Verdicts.{pastBound}
 use Rattle.model.proofs.Cases.{and-left, and-right}
-use Rattle.walk.proofs.Lawful.{stays, within-bounds}
+use Rattle.walk.proofs.Edges.{stays-within, within-stays}
 use Rattle.examples.specs.Tests.{everyFrom, steps, greatestIs}
 use Rattle.examples.proofs.Passed.{each}
 use Rattle.examples.proofs.Search.{Free, Found, found, every}
@@ -19,12 +19,12 @@ module _ (p : Problem) where
   free-within : (h : List ℕ) → Free (pastBound p) h → Within (loopsOf p) h
   unfolding Within
   free-within [] free = tt
-  free-within (v ∷ h) free = (stays p h v (free .0), free-within h (free .1))
+  free-within (v ∷ h) free = (within-stays p h v (free .0), free-within h (free .1))
 
   within-free : (h : List ℕ) → Within (loopsOf p) h → Free (pastBound p) h
   unfolding Within
   within-free [] within = tt
-  within-free (v ∷ h) within = (within-bounds p h v within, within-free h (within .1))
+  within-free (v ∷ h) within = (stays-within p h v (within .0), within-free h (within .1))
 
   module _ (f : List ℕ → ℕ) (m : ℕ) where
     abbrev low : ℕ → List ℕ → Bool

@@ -2,13 +2,13 @@
 use Prim.Native.Nat.{ℕ, suc, _+_, _*_, _≤_, _<_}
 use mathlib.Core.Path.{_≡_, refl, sym, ap, _∙_}
 use mathlib.Core.List.{List, [], _∷_}
-use mathlib.Core.Bool.{Bool, true, false, cond, not}
+use mathlib.Core.Bool.{Bool, true, false, cond, _&&_, and-eq-true-iff}
 use native.Mathlib.Omega.{arith}
 use native.Mathlib.Numerals.{add-one}
 use lib.ListN.{length, getD, drop, replicate, length-replicate, getD-replicate, drop-of-length-le}
 use lib.Seq.{drop-cons}
 use lib.Dec.{ltb, eqb}
-use borrow.Author.Tests.{lt-ltb, le-ltb, eq-eqb, ne-eqb, eqb-true, eqb-false, not-true, not-false}
+use borrow.Author.Tests.{ltb-true, leb-true, leb-false, eq-eqb, ne-eqb, eqb-true, eqb-false}
 use Rattle.model.specs.declared.Problem.{Problem}
 use Rattle.model.specs.declared.Refusal.the-variants.{BadStep, PastBound}
 use Rattle.model.specs.declared.Verdict.{Verdict}
@@ -17,9 +17,11 @@ use Rattle.model.specs.Numbers.{problemOf}
 use Rattle.model.specs.Operations.{Checked}
 use Rattle.model.specs.Walks.{lastVertex, visits}
 use Rattle.model.specs.Verdicts.{mayFollow, pastBound, atLast, judgeWalk}
-use Rattle.model.proofs.Cases.{by-bool}
-use Rattle.walk.specs.Judging.{latest, Known, Steps, Tally, Counters, Arrived}
-use Rattle.walk.proofs.Places.{vertices-few, loops-few}
+use Rattle.model.proofs.Cases.{by-bool, by-cond}
+use Rattle.lookup.proofs.Places.{few-vertices}
+use Rattle.greatest.proofs.Checked.{checked-ranges}
+use Rattle.walk.specs.Judging.{latest, Known, goesBack, stepOf, Steps, Bounds, Tally, Counters, Arriving, Arrived, countAfter}
+use Rattle.walk.proofs.Arrivals.{past-it, within-it, counters-on, tally-on}
 
 -- After i entries, of which the latest is u: what is left to judge is what was to be judged.
 pub record Judging (p : Problem) (walk : List ℕ) (i u : ℕ) (counts : List ℕ) : Type 0 where
@@ -31,25 +33,39 @@ pub record Judging (p : Problem) (walk : List ℕ) (i u : ℕ) (counts : List �
   pub tally : Tally p history counts
   pub counters : Counters counts
 
--- One entry, judged by its three tests.
+-- And the step to entry i.
+pub record Stepping (p : Problem) (walk : List ℕ) (i u : ℕ) (counts : List ℕ) (step : ℕ) : Type 0 where
+  pub judging : Judging p walk i u counts
+  pub more : i < length walk
+  pub is : step ≡ cond (ltb (getD walk i 0) (p .«vertex_count»)) (stepOf p (judging .history) (getD walk i 0)) 0
+
+-- What a step's number says.
+no-step : (known may back : Bool) → _≡_ {A = ℕ} 0 (cond known (cond may (cond back 2 1) 0) 0) → (known && may) ≡ false
+no-step true true true e = absurd (omega arith)
+no-step true true false e = absurd (omega arith)
+no-step true false back e = refl
+no-step false may back e = refl
+
+some-step : (known may back : Bool) (step : ℕ) → step ≡ cond known (cond may (cond back 2 1) 0) 0 → (step ≡ 0 → ⊥) →
+    ((known && may) ≡ true) × (step ≡ cond back 2 1)
+some-step true true back step e some = (refl, e)
+some-step true false back step e some = absurd (some e)
+some-step false may back step e some = absurd (some e)
+
+-- One entry, judged by its tests.
 module _ (p : Problem) (h : List ℕ) (k v : ℕ) (rest : List ℕ) where
-  entry-unknown : p .«vertex_count» ≤ v → Refused (BadStep k) ≡ judgeWalk p h k (v ∷ rest)
+  entry-bad : (ltb v (p .«vertex_count») && mayFollow p h v) ≡ false → Refused (BadStep k) ≡ judgeWalk p h k (v ∷ rest)
   unfolding judgeWalk
-  entry-unknown over = rw (le-ltb v (p .«vertex_count») over)
+  entry-bad e = rw e
 
-  module _ (known : v < p .«vertex_count») where
-    entry-apart : mayFollow p h v ≡ false → Refused (BadStep k) ≡ judgeWalk p h k (v ∷ rest)
+  module _ (step : (ltb v (p .«vertex_count») && mayFollow p h v) ≡ true) where
+    entry-past : pastBound p h v ≡ true → Refused (PastBound k) ≡ judgeWalk p h k (v ∷ rest)
     unfolding judgeWalk
-    entry-apart e = rw (lt-ltb v (p .«vertex_count») known, e)
+    entry-past e = rw (step, e)
 
-    module _ (may : mayFollow p h v ≡ true) where
-      entry-past : pastBound p h v ≡ true → Refused (PastBound k) ≡ judgeWalk p h k (v ∷ rest)
-      unfolding judgeWalk
-      entry-past e = rw (lt-ltb v (p .«vertex_count») known, may, e)
-
-      pub entry-good : pastBound p h v ≡ false → judgeWalk p (v ∷ h) (k + 1) rest ≡ judgeWalk p h k (v ∷ rest)
-      unfolding judgeWalk
-      entry-good e = rw (lt-ltb v (p .«vertex_count») known, may, e)
+    pub entry-good : pastBound p h v ≡ false → judgeWalk p (v ∷ h) (k + 1) rest ≡ judgeWalk p h k (v ∷ rest)
+    unfolding judgeWalk
+    entry-good e = rw (step, e)
 
 latest-near : (n : ℕ) (h : List ℕ) → n ≤ 128 → Known n h → latest h ≤ 128
 latest-near n [] few known = omega arith
@@ -64,7 +80,7 @@ at-last p (u ∷ h) few known =
     (λ e. ne-eqb u (lastVertex p) (λ q. eqb-false (u + 1) (p .«vertex_count») e (omega arith)) ∙ sym e)
 
 module _ (l : List ℕ) (checked : Checked l) (walk : List ℕ) where
-  pub begin : Judging (problemOf l) walk 0 128 (replicate 32 0)
+  pub begin : Judging (problemOf l) walk 0 128 (replicate 128 0)
   unfolding visits
   begin =
       record {
@@ -73,53 +89,26 @@ module _ (l : List ℕ) (checked : Checked l) (walk : List ℕ) where
         rest = refl;
         from = refl;
         known = tt;
-        tally = λ i below inside. getD-replicate {A = ℕ} 32 i 0 0 (omega (arith, loops-few l checked));
-        counters = record { long = length-replicate {A = ℕ} 32 0; small = λ i h. omega (arith, getD-replicate {A = ℕ} 32 i 0 0 h) };
+        tally = λ o m inside.
+            getD-replicate {A = ℕ} 128 (o .header) 0 0 (omega (arith, few-vertices l checked, checked-ranges l checked .header o m, checked-ranges l checked .last o m));
+        counters = record { long = length-replicate {A = ℕ} 128 0; small = λ i h. omega (arith, getD-replicate {A = ℕ} 128 i 0 0 h) };
       }
 
   module _ (i u : ℕ) (counts : List ℕ) (judging : Judging (problemOf l) walk i u counts) where
     pub latest-few : u ≤ 128
-    latest-few = omega (arith, judging .from, latest-near (problemOf l .«vertex_count») (judging .history) (vertices-few l checked) (judging .known))
+    latest-few = omega (arith, judging .from, latest-near (problemOf l .«vertex_count») (judging .history) (few-vertices l checked) (judging .known))
 
-    module _ (more : i < length walk) where
-      -- The walk from entry i on.
-      onward : (x : Verdict) → x ≡ judgeWalk (problemOf l) (judging .history) i (getD walk i 0 ∷ drop (suc i) walk) → x ≡ judgeWalk (problemOf l) [] 0 walk
-      onward x e = e ∙ ap (judgeWalk (problemOf l) (judging .history) i) (sym (drop-cons walk i 0 more)) ∙ judging .rest
-
-      pub unknown : problemOf l .«vertex_count» ≤ getD walk i 0 → Refused (BadStep i) ≡ judgeWalk (problemOf l) [] 0 walk
-      unknown over = onward _ (entry-unknown (problemOf l) (judging .history) i (getD walk i 0) _ over)
-
-      module _ (known : getD walk i 0 < problemOf l .«vertex_count») (table : List ℕ) (steps : Steps (problemOf l) table) where
-        may-is : mayFollow (problemOf l) (judging .history) (getD walk i 0) ≡ ltb 0 (getD table (128 * u + getD walk i 0) 0)
-        may-is = rw (← judging .from) (steps .may (judging .history) (getD walk i 0) (judging .known) known)
-
-        pub apart : getD table (128 * u + getD walk i 0) 0 ≡ 0 → Refused (BadStep i) ≡ judgeWalk (problemOf l) [] 0 walk
-        apart none =
-            onward _ (entry-apart (problemOf l) (judging .history) i (getD walk i 0) _ known (may-is ∙ le-ltb 0 (getD table (128 * u + getD walk i 0) 0) (omega arith)))
-
-        module _ (edge : getD table (128 * u + getD walk i 0) 0 ≡ 0 → ⊥) (after : List ℕ) (within : Bool) (arrived : Arrived l counts after u (getD walk i 0) within) where
-          may : mayFollow (problemOf l) (judging .history) (getD walk i 0) ≡ true
-          may = may-is ∙ lt-ltb 0 (getD table (128 * u + getD walk i 0) 0) (omega arith)
-
-          told : not (pastBound (problemOf l) (judging .history) (getD walk i 0)) ≡ within
-          told = arrived .told (judging .history) (judging .from) may (judging .tally)
-
-          pub past : within ≡ false → Refused (PastBound i) ≡ judgeWalk (problemOf l) [] 0 walk
-          past e = onward _ (entry-past (problemOf l) (judging .history) i (getD walk i 0) _ known may (not-false _ (told ∙ e)))
-
-          pub good : within ≡ true → Judging (problemOf l) walk (i + 1) (getD walk i 0) after
-          good e =
-              record {
-                history = getD walk i 0 ∷ judging .history;
-                within = omega arith;
-                rest =
-                    ap (λ (k : ℕ). judgeWalk (problemOf l) (getD walk i 0 ∷ judging .history) (i + 1) (drop k walk)) (add-one i)
-                    ∙ onward _ (entry-good (problemOf l) (judging .history) i (getD walk i 0) _ known may (not-true _ (told ∙ e)));
-                from = refl;
-                known = known;
-                tally = arrived .tally e (judging .history) (judging .from) may (judging .tally);
-                counters = arrived .counters e;
-              }
+    pub stepping : i < length walk → (table : List ℕ) → Steps (problemOf l) table → (n : ℕ) → n ≡ problemOf l .«vertex_count» → (step : ℕ) →
+        step ≡ cond (ltb (getD walk i 0) n) (getD table (128 * u + getD walk i 0) 0) 0 → Stepping (problemOf l) walk i u counts step
+    stepping more table steps n n-is step told =
+        record {
+          judging = judging;
+          more = more;
+          is =
+              by-cond (λ (x : ℕ). step ≡ x) (ltb (getD walk i 0) (problemOf l .«vertex_count»))
+              (λ e. (rw (n-is, e) at told) ∙ ap (λ (x : ℕ). getD table (128 * x + getD walk i 0) 0) (sym (judging .from)) ∙ steps .are (judging .history) (getD walk i 0) (judging .known) (ltb-true _ _ e))
+              (λ e. rw (n-is, e) at told);
+        }
 
     module _ (over : length walk ≤ i) where
       ended : judgeWalk (problemOf l) [] 0 walk ≡ cond (eqb (u + 1) (problemOf l .«vertex_count»)) Accepted (Refused (BadStep i))
@@ -127,10 +116,72 @@ module _ (l : List ℕ) (checked : Checked l) (walk : List ℕ) where
       ended =
           sym (judging .rest)
           ∙ ap (judgeWalk (problemOf l) (judging .history) i) (drop-of-length-le walk over)
-          ∙ (rw (at-last (problemOf l) (judging .history) (vertices-few l checked) (judging .known), judging .from))
+          ∙ (rw (at-last (problemOf l) (judging .history) (few-vertices l checked) (judging .known), judging .from))
 
       pub ends-well : u + 1 ≡ problemOf l .«vertex_count» → Accepted ≡ judgeWalk (problemOf l) [] 0 walk
       ends-well e = sym (ended ∙ (rw (eq-eqb (u + 1) (problemOf l .«vertex_count») e)))
 
       pub ends-early : (u + 1 ≡ problemOf l .«vertex_count» → ⊥) → Refused (BadStep i) ≡ judgeWalk (problemOf l) [] 0 walk
       ends-early n = sym (ended ∙ (rw (ne-eqb (u + 1) (problemOf l .«vertex_count») n)))
+
+  -- What follows for the walk from the step to entry i.
+  module _ (i u : ℕ) (counts : List ℕ) (step : ℕ) (stepping : Stepping (problemOf l) walk i u counts step) where
+    abbrev v : ℕ
+    v = getD walk i 0
+
+    abbrev h : List ℕ
+    h = stepping .judging .history
+
+    onward : (x : Verdict) → x ≡ judgeWalk (problemOf l) h i (v ∷ drop (suc i) walk) → x ≡ judgeWalk (problemOf l) [] 0 walk
+    onward x e = e ∙ ap (judgeWalk (problemOf l) h i) (sym (drop-cons walk i 0 (stepping .more))) ∙ stepping .judging .rest
+
+    pub bad : step ≡ 0 → Refused (BadStep i) ≡ judgeWalk (problemOf l) [] 0 walk
+    bad none = onward _ (entry-bad (problemOf l) h i v _ (no-step (ltb v (problemOf l .«vertex_count»)) (mayFollow (problemOf l) h v) (goesBack h v) (sym none ∙ stepping .is)))
+
+    module _ (some : step ≡ 0 → ⊥) where
+      good-step : ((ltb v (problemOf l .«vertex_count») && mayFollow (problemOf l) h v) ≡ true) × (step ≡ cond (goesBack h v) 2 1)
+      good-step = some-step (ltb v (problemOf l .«vertex_count»)) (mayFollow (problemOf l) h v) (goesBack h v) step (stepping .is) some
+
+      both : (ltb v (problemOf l .«vertex_count») ≡ true) × (mayFollow (problemOf l) h v ≡ true)
+      both = and-eq-true-iff (ltb v (problemOf l .«vertex_count»)) _ .0 (good-step .0)
+
+      known : v < problemOf l .«vertex_count»
+      known = ltb-true _ _ (both .0)
+
+      inside : v < 128
+      inside = omega (arith, known, few-vertices l checked)
+
+      pub arriving : Arriving counts step v
+      arriving =
+          record {
+            counters = stepping .judging .counters;
+            inside = inside;
+            step-low = omega arith;
+            step-high = rw (good-step .1) (by-cond (λ (x : ℕ). x ≤ 2) (goesBack h v) (λ e. omega arith) (λ e. omega arith));
+          }
+
+      module _ (bounds : List ℕ) (are : Bounds (problemOf l) bounds) (after : List ℕ) (within : Bool) (arrived : Arrived bounds counts after step v within) where
+        pub past : within ≡ false → Refused (PastBound i) ≡ judgeWalk (problemOf l) [] 0 walk
+        past e =
+            onward _ (entry-past (problemOf l) h i v _ (good-step .0)
+            (past-it l checked h v (both .1) counts (stepping .judging .tally) step (good-step .1) bounds are inside (leb-false _ _ (sym (arrived .told) ∙ e))))
+
+        module _ (e : within ≡ true) where
+          fits : countAfter counts step v ≤ getD bounds v 0
+          fits = leb-true _ _ (sym (arrived .told) ∙ e)
+
+          pub good : Judging (problemOf l) walk (i + 1) v after
+          good =
+              record {
+                history = v ∷ h;
+                within = omega (arith, stepping .more);
+                rest =
+                    ap (λ (k : ℕ). judgeWalk (problemOf l) (v ∷ h) (i + 1) (drop k walk)) (add-one i)
+                    ∙ onward _ (entry-good (problemOf l) h i v _ (good-step .0)
+                    (within-it l checked h v (both .1) counts (stepping .judging .tally) step (good-step .1) bounds are inside fits));
+                from = refl;
+                known = known;
+                tally = rw (arrived .counted e) (tally-on l checked h v (both .1) counts (stepping .judging .tally) step (good-step .1) (stepping .judging .counters .long) inside);
+                counters =
+                    rw (arrived .counted e) (counters-on l checked h v (both .1) counts (stepping .judging .tally) step (good-step .1) bounds are inside (stepping .judging .counters) fits);
+              }

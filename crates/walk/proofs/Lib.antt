@@ -1,8 +1,8 @@
-pub mod Tables
-pub mod Places
+pub mod Edges
 pub mod Steps
-pub mod Headers
+pub mod Bounds
 pub mod Arrivals
 pub mod Entries
 pub mod Lawful
+pub mod Pairs
 pub mod Visits

@@ -1,140 +1,139 @@
--- The table of the steps: an edge after an edge is marked in it, and once all are it tells which entry may follow a history.
+-- The table of the steps: an edge after an edge is marked in it, and once all are it tells the step from a history to an entry.
 use Prim.Native.Nat.{ℕ, _+_, _*_, _≤_, _<_}
-use mathlib.Core.Path.{_≡_, refl, sym, ap, _∙_}
+use mathlib.Core.Path.{_≡_, sym, ap, _∙_}
 use mathlib.Core.List.{List, [], _∷_}
-use mathlib.Core.Bool.{Bool, true, false, _&&_}
+use mathlib.Core.Bool.{cond}
 use native.Mathlib.Omega.{arith}
 use lib.ListN.{length, getD, set, replicate, length-set, length-replicate, getD-replicate}
 use lib.Seq.{getD-set-same, getD-set-other}
-use lib.Dec.{ltb, eqb}
-use borrow.Author.Tests.{lt-ltb, le-ltb, eq-eqb, eqb-true, eqb-false}
+use lib.Dec.{leb, eqb}
+use borrow.Author.Tests.{eqb-true, eqb-false}
+use Rattle.model.specs.declared.Edge.{Edge}
 use Rattle.model.specs.declared.Problem.{Problem}
-use Rattle.model.specs.Search.{existsBelow}
+use Rattle.model.specs.Zero.{zeroEdge}
 use Rattle.model.specs.Numbers.{problemOf}
 use Rattle.model.specs.Graph.{edge, edgesOf}
 use Rattle.model.specs.Operations.{Checked}
 use Rattle.model.specs.Verdicts.{mayFollow}
-use Rattle.model.proofs.Cases.{by-bool, by-order, and-left, and-right, true-not-false}
-use Rattle.model.proofs.Search.{some-below, none-below}
-use Rattle.walk.specs.Judging.{latest, Known, Steps}
-use Rattle.walk.proofs.Places.{vertices-few, from-below, to-below}
+use Rattle.model.proofs.Cases.{by-bool, by-cond, by-order, true-not-false}
+use Rattle.model.proofs.Lists.{mem-getD, index-of}
+use Rattle.lookup.proofs.Places.{few-vertices}
+use Rattle.greatest.proofs.Checked.{checked-ranges}
+use Rattle.walk.specs.Judging.{latest, Known, Steps, stepOf}
+use Rattle.walk.proofs.Edges.{led, follows-edge, edge-follows}
 
--- A test that passes somewhere below n.
-pub exists-at : (n : ℕ) (test : ℕ → Bool) (i : ℕ) → i < n → test i ≡ true → existsBelow n test ≡ true
-exists-at n test i h e = by-bool (existsBelow n test) (λ q. q) (λ q. true-not-false (sym e ∙ none-below n test q i h))
-
-pub and-true : {a b : Bool} → a ≡ true → b ≡ true → (a && b) ≡ true
-and-true e q = rw (e, q)
-
--- An edge's place in the table.
-abbrev pub place : Problem → ℕ → ℕ
+-- An edge's place in the table, and what stands there.
+abbrev place : Problem → ℕ → ℕ
 place p i = 128 * edge (edgesOf p) i .from + edge (edgesOf p) i .to
+
+abbrev along : Edge → ℕ
+along e = cond (leb (e .to) (e .from)) 2 1
 
 -- The first `count` edges are marked, and the start.
 pub record Marked (p : Problem) (count : ℕ) (t : List ℕ) : Type 0 where
   pub long : length t ≡ 16512
-  pub first : (v : ℕ) → v < 128 → ltb 0 (getD t (16384 + v) 0) ≡ eqb v 0
-  pub made : (i : ℕ) → i < count → getD t (place p i) 0 ≡ 1
+  pub first : (v : ℕ) → v < 128 → getD t (16384 + v) 0 ≡ cond (eqb v 0) 1 0
+  pub made : (i : ℕ) → i < count → getD t (place p i) 0 ≡ along (edge (edgesOf p) i)
   pub only : (k : ℕ) → k < 16384 → 0 < getD t k 0 → (i : ℕ) × (i < count) × (place p i ≡ k)
 
-module _ (t : List ℕ) (at : ℕ) (long : length t ≡ 16512) (inside : at < 16512) where
-  here : (k : ℕ) → k ≡ at → getD (set t at 1) k 0 ≡ 1
-  here k e = rw e (getD-set-same t at 1 0 (omega arith))
-
-  elsewhere : (k : ℕ) → (k ≡ at → ⊥) → getD (set t at 1) k 0 ≡ getD t k 0
-  elsewhere k n = getD-set-other t at k 1 0 n
+module _ (t : List ℕ) (at x : ℕ) (long : length t ≡ 16512) (inside : at < 16512) where
+  here : (k : ℕ) → k ≡ at → getD (set t at x) k 0 ≡ x
+  here k e = rw e (getD-set-same t at x 0 (omega arith))
 
 -- A table without a mark.
 abbrev unmarked : List ℕ
 unmarked = replicate 16512 0
 
-unmarked-at : (k : ℕ) → k < 16512 → getD unmarked k 0 ≡ 0
-unmarked-at k h = getD-replicate {A = ℕ} 16512 k 0 0 h
+size : length unmarked ≡ 16512
+size = length-replicate {A = ℕ} 16512 0
 
-module _ (p : Problem) where
-  size : length unmarked ≡ 16512
-  size = length-replicate {A = ℕ} 16512 0
+not-there : (k : ℕ) → k < 16512 → (k ≡ 16384 → ⊥) → getD (set unmarked 16384 1) k 0 ≡ 0
+not-there k h n = getD-set-other unmarked 16384 k 1 0 n ∙ getD-replicate {A = ℕ} 16512 k 0 0 h
 
-  not-there : (k : ℕ) → k < 16512 → (k ≡ 16384 → ⊥) → getD (set unmarked 16384 1) k 0 ≡ 0
-  not-there k h n = elsewhere unmarked 16384 size (omega arith) k n ∙ unmarked-at k h
-
-  start-first : (v : ℕ) → v < 128 → (t : Bool) → eqb v 0 ≡ t → ltb 0 (getD (set unmarked 16384 1) (16384 + v) 0) ≡ t
-  start-first v h true e = lt-ltb 0 (getD (set unmarked 16384 1) (16384 + v) 0) (omega (arith, here unmarked 16384 size (omega arith) (16384 + v) (omega (arith, eqb-true v 0 e))))
-  start-first v h false e = le-ltb 0 (getD (set unmarked 16384 1) (16384 + v) 0) (omega (arith, not-there (16384 + v) (omega arith) (λ q. eqb-false v 0 e (omega arith))))
-
-  pub start-marked : Marked p 0 (set (replicate 16512 0) 16384 1)
-  start-marked =
-      record {
-        long = length-set unmarked 16384 1 ∙ size;
-        first = λ v h. start-first v h (eqb v 0) refl;
-        made = λ i h. let z : ⊥ = omega arith in elim z [ ];
-        only = λ k h some. let z : ⊥ = omega (arith, not-there k (omega arith) (λ q. omega arith)) in elim z [ ];
-      }
+pub start-marked : (p : Problem) → Marked p 0 (set (replicate 16512 0) 16384 1)
+start-marked p =
+    record {
+      long = length-set unmarked 16384 1 ∙ size;
+      first = λ v h.
+          by-cond (λ (x : ℕ). getD (set unmarked 16384 1) (16384 + v) 0 ≡ x) (eqb v 0)
+          (λ e. here unmarked 16384 1 size (omega arith) (16384 + v) (omega (arith, eqb-true v 0 e)))
+          (λ e. not-there (16384 + v) (omega arith) (λ q. eqb-false v 0 e (omega arith)));
+      made = λ i h. absurd (omega arith);
+      only = λ k h some. absurd (omega (arith, not-there k (omega arith) (λ q. omega arith)));
+    }
 
 module _ (l : List ℕ) (checked : Checked l) where
-  pub from-inside : (i : ℕ) → i < length (edgesOf (problemOf l)) → edge (edgesOf (problemOf l)) i .from < 128
-  from-inside i h = omega (arith, vertices-few l checked, from-below l checked i h)
+  ends-inside : (i : ℕ) → i < length (edgesOf (problemOf l)) → (edge (edgesOf (problemOf l)) i .from < 128) × (edge (edgesOf (problemOf l)) i .to < 128)
+  ends-inside i h =
+      let m = mem-getD (edgesOf (problemOf l)) i zeroEdge h in
+      (omega (arith, few-vertices l checked, checked-ranges l checked .from _ m), omega (arith, few-vertices l checked, checked-ranges l checked .to _ m))
 
-  place-inside : (i : ℕ) → i < length (edgesOf (problemOf l)) → place (problemOf l) i < 16384
-  place-inside i h = omega (arith, vertices-few l checked, from-below l checked i h, to-below l checked i h)
+  -- Edges at one place have the same ends.
+  module _ (i j : ℕ) (h : i < length (edgesOf (problemOf l))) (k : j < length (edgesOf (problemOf l))) (same : place (problemOf l) i ≡ place (problemOf l) j) where
+    one-place : along (edge (edgesOf (problemOf l)) i) ≡ along (edge (edgesOf (problemOf l)) j)
+    one-place =
+        let a = ends-inside i h in
+        let b = ends-inside j k in
+        let from : edge (edgesOf (problemOf l)) i .from ≡ edge (edgesOf (problemOf l)) j .from = omega arith in
+        let to : edge (edgesOf (problemOf l)) i .to ≡ edge (edgesOf (problemOf l)) j .to = omega arith in
+        rw (from, to)
 
-  module _ (i from to : ℕ) (below : i < length (edgesOf (problemOf l))) (f : from ≡ edge (edgesOf (problemOf l)) i .from) (o : to ≡ edge (edgesOf (problemOf l)) i .to) where
+  module _ (i from to x : ℕ) (below : i < length (edgesOf (problemOf l))) (f : from ≡ edge (edgesOf (problemOf l)) i .from) (o : to ≡ edge (edgesOf (problemOf l)) i .to)
+      (is : x ≡ cond (leb to from) 2 1) where
     pub mark-inside : 128 * from + to < 16384
-    mark-inside = omega (arith, place-inside i below)
+    mark-inside = let a = ends-inside i below in omega arith
 
-    pub edge-marked : (t : List ℕ) → Marked (problemOf l) i t → Marked (problemOf l) (i + 1) (set t (128 * from + to) 1)
+    mark-is : x ≡ along (edge (edgesOf (problemOf l)) i)
+    mark-is = rw (← f, ← o) is
+
+    pub edge-marked : (t : List ℕ) → Marked (problemOf l) i t → Marked (problemOf l) (i + 1) (set t (128 * from + to) x)
     edge-marked t m =
         let at : ℕ = 128 * from + to in
         let mine : place (problemOf l) i ≡ at = omega arith in
         let in16384 : at < 16384 = mark-inside in
         record {
-          long = length-set t at 1 ∙ m .long;
-          first = λ v h. ap (λ (x : ℕ). ltb 0 x) (elsewhere t at (m .long) (omega arith) (16384 + v) (λ q. omega arith)) ∙ m .first v h;
+          long = length-set t at x ∙ m .long;
+          first = λ v h. getD-set-other t at (16384 + v) x 0 (λ e. omega arith) ∙ m .first v h;
           made = λ j h.
               by-bool (eqb (place (problemOf l) j) at)
-              (λ e. here t at (m .long) (omega arith) _ (eqb-true _ at e))
               (λ e.
-              elsewhere t at (m .long) (omega arith) _ (eqb-false _ at e)
+              here t at x (m .long) (omega arith) _ (eqb-true _ at e)
+              ∙ mark-is
+              ∙ one-place i j below (omega arith) (mine ∙ sym (eqb-true _ at e)))
+              (λ e.
+              getD-set-other t at _ x 0 (eqb-false _ at e)
               ∙ m .made j (by-bool (eqb j i)
-              (λ q. let z : ⊥ = eqb-false _ at e (ap (place (problemOf l)) (eqb-true j i q) ∙ mine) in elim z [ ])
+              (λ q. absurd (eqb-false _ at e (ap (place (problemOf l)) (eqb-true j i q) ∙ mine)))
               (λ q. omega (arith, eqb-false j i q))));
           only = λ k h some.
               by-bool (eqb k at)
               (λ e. (i, omega arith, mine ∙ sym (eqb-true k at e)))
               (λ e.
-              let r = m .only k h (rw (elsewhere t at (m .long) (omega arith) k (eqb-false k at e)) at some) in
-              (r .0, omega (arith, r .1), r .2));
+              let (j, less, q) = m .only k h (rw (getD-set-other t at k x 0 (eqb-false k at e)) at some) in
+              (j, omega arith, q));
         }
 
-  module _ (t : List ℕ) (m : Marked (problemOf l) (length (edgesOf (problemOf l))) t) (u v : ℕ) (known : u < problemOf l .«vertex_count») (next : v < problemOf l .«vertex_count») where
-    -- Whether an edge leads from u to v.
-    abbrev leads : ℕ → Bool
-    leads i = eqb (edge (edgesOf (problemOf l)) i .from) u && eqb (edge (edgesOf (problemOf l)) i .to) v
-
-    looked-up : existsBelow (length (edgesOf (problemOf l))) leads ≡ ltb 0 (getD t (128 * u + v) 0)
+  module _ (t : List ℕ) (m : Marked (problemOf l) (length (edgesOf (problemOf l))) t) (u v : ℕ) (h : List ℕ) (known : u < problemOf l .«vertex_count») (next : v < problemOf l .«vertex_count») where
+    looked-up : getD t (128 * u + v) 0 ≡ stepOf (problemOf l) (u ∷ h) v
     looked-up =
-        let few : problemOf l .«vertex_count» ≤ 128 = vertices-few l checked in
+        let few : problemOf l .«vertex_count» ≤ 128 = few-vertices l checked in
+        by-cond (λ (x : ℕ). getD t (128 * u + v) 0 ≡ x) (mayFollow (problemOf l) (u ∷ h) v)
+        (λ e.
+        let (i, less, q) = index-of zeroEdge (follows-edge (problemOf l) u v h e) in
+        let f : edge (edgesOf (problemOf l)) i .from ≡ u = ap (λ (x : Edge). x .from) q in
+        let o : edge (edgesOf (problemOf l)) i .to ≡ v = ap (λ (x : Edge). x .to) q in
+        rw (f, o) at (m .made i less))
+        (λ e.
         by-order 0 (getD t (128 * u + v) 0)
         (λ some.
-        let r = m .only (128 * u + v) (omega arith) some in
-        exists-at _ leads (r .0) (r .1)
-        (and-true
-        (eq-eqb _ u (omega (arith, r .2, to-below l checked (r .0) (r .1))))
-        (eq-eqb _ v (omega (arith, r .2, to-below l checked (r .0) (r .1)))))
-        ∙ sym (lt-ltb 0 _ some))
-        (λ none.
-        by-bool (existsBelow (length (edgesOf (problemOf l))) leads)
-        (λ e.
-        let r = some-below (length (edgesOf (problemOf l))) leads e in
-        let f : edge (edgesOf (problemOf l)) (r .0) .from ≡ u = eqb-true _ u (and-left (eqb (edge (edgesOf (problemOf l)) (r .0) .from) u) _ (r .2)) in
-        let o : edge (edgesOf (problemOf l)) (r .0) .to ≡ v = eqb-true _ v (and-right (eqb (edge (edgesOf (problemOf l)) (r .0) .from) u) _ (r .2)) in
-        let z : ⊥ = omega (arith, rw (f, o) at (m .made (r .0) (r .1))) in
-        elim z [ ])
-        (λ e. e ∙ sym (le-ltb 0 _ none)))
+        let (i, less, q) = m .only (128 * u + v) (omega arith) some in
+        let a = ends-inside i less in
+        true-not-false (sym (edge-follows (problemOf l) u v h (led (problemOf l) u v i less (omega arith) (omega arith))) ∙ e))
+        (λ none. omega arith))
 
   pub all-marked : (i : ℕ) (t : List ℕ) → i ≤ length (edgesOf (problemOf l)) → length (edgesOf (problemOf l)) ≤ i → Marked (problemOf l) i t → Steps (problemOf l) t
   unfolding mayFollow
-  all-marked i t low high marked = record { may = may }
+  all-marked i t low high marked = record { are = are }
     where
       end : i ≡ length (edgesOf (problemOf l))
       end = omega arith
@@ -142,7 +141,6 @@ module _ (l : List ℕ) (checked : Checked l) where
       m : Marked (problemOf l) (length (edgesOf (problemOf l))) t
       m = rw end at marked
 
-      may : (h : List ℕ) (v : ℕ) → Known (problemOf l .«vertex_count») h → v < problemOf l .«vertex_count» →
-          mayFollow (problemOf l) h v ≡ ltb 0 (getD t (128 * latest h + v) 0)
-      may [] v known next = sym (m .first v (omega (arith, vertices-few l checked)))
-      may (u ∷ h) v known next = looked-up t m u v known next
+      are : (h : List ℕ) (v : ℕ) → Known (problemOf l .«vertex_count») h → v < problemOf l .«vertex_count» → getD t (128 * latest h + v) 0 ≡ stepOf (problemOf l) h v
+      are [] v known next = m .first v (omega (arith, few-vertices l checked))
+      are (u ∷ h) v known next = looked-up t m u v h known next

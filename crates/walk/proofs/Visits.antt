@@ -2,7 +2,7 @@
 use Prim.Native.Nat.{ℕ, _+_, _*_, _≤_, _<_}
 use mathlib.Core.Path.{_≡_, refl, sym, ap, _∙_}
 use mathlib.Core.List.{List, [], _∷_, reverse, reverseAux}
-use mathlib.Core.Bool.{Bool, true, false}
+use mathlib.Core.Bool.{Bool, true, false, cond}
 use mathlib.Core.Option.{Option, some, none}
 use native.Mathlib.Omega.{arith}
 use native.Mathlib.Numerals.{add-one}
@@ -16,12 +16,13 @@ use Rattle.model.specs.Zero.{cycles as cyclesOf}
 use Rattle.model.specs.Numbers.{table, problemOf}
 use Rattle.model.specs.Costs.{functionOf, ownCost, loadCost}
 use Rattle.model.specs.Layouts.{regionOf}
+use Rattle.model.specs.Operations.{Checked}
 use Rattle.model.specs.Runs.{held, hit, isHeld, cycles, loads, heldNumber, heldAfter}
-use Rattle.model.proofs.Cases.{by-bool}
+use Rattle.model.proofs.Cases.{by-bool, by-cond}
 use Rattle.model.proofs.Lists.{length-table, getD-table, is-table}
-use Rattle.walk.specs.Running.{Ran, Visiting, Visited, Runnable, dearest}
+use Rattle.lookup.proofs.Places.{few-functions, few-vertices, function-below, cost-high, load-high}
+use Rattle.walk.specs.Running.{Places, Costs, Ran, Visiting, Visited, Runnable, loadsAt}
 use Rattle.walk.proofs.Lawful.{entries-known}
-use Rattle.walk.proofs.Places.{functions-few, function-listed, own-small, load-small}
 
 -- A visit to v over the definitions, with v's function f and its region r: whether it finds f held, and what it leaves.
 module _ (p : Problem) (layout h : List ℕ) (v f r : ℕ) (fn-is : functionOf p v ≡ f) (region-is : regionOf layout (functionOf p v) ≡ r)
@@ -49,8 +50,8 @@ module _ (p : Problem) (layout h : List ℕ) (v f r : ℕ) (fn-is : functionOf p
     long : length before ≡ 32
     long = ap (λ (x : List ℕ). length x) (ran .held-are) ∙ length-table 32 (heldAfter p layout h)
 
-    found : (t : Bool) → eqb (getD before r 0) f ≡ t → hit (functionOf p) (regionOf layout) v h ≡ t
-    found t e = hit-is ∙ (rw (← held-is r inside) e)
+    found : hit (functionOf p) (regionOf layout) v h ≡ eqb (getD before r 0) f
+    found = hit-is ∙ (rw (← held-is r inside))
 
     left-held : set before r f ≡ table 32 (heldAfter p layout (v ∷ h))
     left-held =
@@ -63,74 +64,84 @@ module _ (p : Problem) (layout h : List ℕ) (v f r : ℕ) (fn-is : functionOf p
         ∙ sym (held-here k (eqb-true k r e)))
         (λ e. getD-set-other before r k f 0 (eqb-false k r e) ∙ held-is k q ∙ sym (held-elsewhere k (eqb-false k r e))))
 
-    hits : (o : ℕ) → ownCost p v ≡ o → getD before r 0 ≡ f →
-        Ran p layout (v ∷ h) (set before r f) (record { cycles = cyclesOf (run .cycles .0 + o); loads = run .loads })
+    -- The state after the visit.
+    visit-ran : (after : List ℕ) (run′ : Run) → after ≡ set before r f → run′ .loads ≡ run .loads + cond (eqb (getD before r 0) f) 0 1 →
+        run′ .cycles .0 ≡ run .cycles .0 + (ownCost p v + cond (eqb (getD before r 0) f) 0 (loadCost p (functionOf p v))) → Ran p layout (v ∷ h) after run′
     unfolding cycles loads
-    hits o own-is same =
-        let there : hit (functionOf p) (regionOf layout) v h ≡ true = found true (eq-eqb _ f same) in
+    visit-ran after run′ after-is loads-are cycles-are =
         record {
-          cycles-are = rw there (omega (arith, ran .cycles-are));
-          loads-are = rw there (omega (arith, ran .loads-are));
-          held-are = left-held;
+          cycles-are = rw found (omega (arith, ran .cycles-are));
+          loads-are = rw found (omega (arith, ran .loads-are));
+          held-are = after-is ∙ left-held;
         }
 
-    misses : (o c : ℕ) → ownCost p v ≡ o → loadCost p (functionOf p v) ≡ c → (getD before r 0 ≡ f → ⊥) →
-        Ran p layout (v ∷ h) (set before r f) (record { cycles = cyclesOf (run .cycles .0 + o + c); loads = run .loads + 1 })
-    unfolding cycles loads
-    misses o c own-is load-is other =
-        let absent : hit (functionOf p) (regionOf layout) v h ≡ false = found false (ne-eqb _ f other) in
+-- What `visit` makes of the tables and a state.
+module _ (places costs before : List ℕ) (run : Run) (v m : ℕ) (loads-are : m ≡ loadsAt places before v) where
+  pub one-load : m ≤ 1
+  one-load = rw loads-are (by-cond (λ (x : ℕ). x ≤ 1) (eqb (getD before (getD places (2 * v + 1) 0) 0) (getD places (2 * v) 0)) (λ e. omega arith) (λ e. omega arith))
+
+  pub made-visit : (c : ℕ) → c ≡ getD costs (2 * v + m) 0 →
+      Visited places costs before (set before (getD places (2 * v + 1) 0) (getD places (2 * v) 0)) run (record { cycles = cyclesOf (run .cycles .0 + c); loads = run .loads + m }) v
+  made-visit c cost-is =
+      record {
+        cycles-are = ap (λ (x : ℕ). run .cycles .0 + x) (cost-is ∙ ap (λ (x : ℕ). getD costs (2 * v + x) 0) loads-are);
+        loads-are = ap (λ (x : ℕ). run .loads + x) loads-are;
+        held-are = refl;
+      }
+
+-- The most that a visit costs: its own cost and a load.
+abbrev dearest : ℕ
+dearest = 33554430
+
+-- The same visit by the tables, and how large its numbers are.
+module _ (l : List ℕ) (checked : Checked l) (layout places costs : List ℕ) (placed : Places (problemOf l) layout places) (priced : Costs (problemOf l) costs)
+    (v : ℕ) (known : v < problemOf l .«vertex_count») where
+  function-few : getD places (2 * v) 0 < 32
+  function-few = omega (arith, placed .one v known, function-below l checked v known, few-functions l checked)
+
+  -- The cost by whether the function is held.
+  cost-by : (t : Bool) → getD costs (2 * v + cond t 0 1) 0 ≡ ownCost (problemOf l) v + cond t 0 (loadCost (problemOf l) (functionOf (problemOf l) v))
+  cost-by true = let e : 2 * v + 0 ≡ 2 * v = omega arith in rw e (omega (arith, priced .one v known))
+  cost-by false = priced .other v known
+
+  cost-few : (t : Bool) → getD costs (2 * v + cond t 0 1) 0 ≤ dearest
+  cost-few t =
+      rw (cost-by t) (by-cond (λ (x : ℕ). ownCost (problemOf l) v + x ≤ dearest) t
+      (λ e. omega (arith, cost-high l checked v known))
+      (λ e. omega (arith, cost-high l checked v known, load-high l checked (functionOf (problemOf l) v) (function-below l checked v known))))
+
+  module _ (inside : (f : ℕ) → f < problemOf l .«function_count» → regionOf layout f < 32) where
+    region-few : getD places (2 * v + 1) 0 < 32
+    region-few = omega (arith, placed .other v known, inside (functionOf (problemOf l) v) (function-below l checked v known))
+
+    may-visit : (run : Run) → run .cycles .0 + dearest < 18446744073709551616 → run .loads + 1 < 18446744073709551616 → Visiting places costs run v
+    may-visit run cycles-fit loads-fit =
         record {
-          cycles-are = rw absent (omega (arith, ran .cycles-are));
-          loads-are = rw absent (omega (arith, ran .loads-are));
-          held-are = left-held;
+          inside = omega (arith, few-vertices l checked);
+          function-small = omega (arith, function-few);
+          region-small = region-few;
+          cycles-fit = λ loads less.
+              by-bool (eqb loads 0)
+              (λ e. let z : loads ≡ 0 = eqb-true loads 0 e in rw z (omega (arith, cost-few true)))
+              (λ e. let z : loads ≡ 1 = omega (arith, eqb-false loads 0 e) in rw z (omega (arith, cost-few false)));
+          loads-fit = loads-fit;
         }
 
--- The same visit with the functions' regions at hand, and how large its numbers are.
-module _ (l regions : List ℕ) (run : Run) (v : ℕ) (visiting : Visiting l regions run v) (f : ℕ) (fn-is : f ≡ functionOf (problemOf l) v) where
-  pub listed : f < problemOf l .«function_count»
-  listed = omega (arith, function-listed l (visiting .checked) v (visiting .known))
+    module _ (before after : List ℕ) (run run′ : Run) (visited : Visited places costs before after run run′ v) where
+      -- Whether the visit finds its function held.
+      abbrev there : Bool
+      there = eqb (getD before (getD places (2 * v + 1) 0) 0) (getD places (2 * v) 0)
 
-  pub function-few : f < 32
-  function-few = omega (arith, listed, functions-few l (visiting .checked))
+      ran-on : (h : List ℕ) → Ran (problemOf l) layout h before run → Ran (problemOf l) layout (v ∷ h) after run′
+      ran-on h ran =
+          visit-ran (problemOf l) layout h v (getD places (2 * v) 0) (getD places (2 * v + 1) 0) (sym (placed .one v known)) (sym (placed .other v known)) function-few region-few
+          before run ran after run′ (visited .held-are) (visited .loads-are) (visited .cycles-are ∙ ap (λ (x : ℕ). run .cycles .0 + x) (cost-by there))
 
-  pub region-few : getD regions f 0 < 32
-  region-few = visiting .inside f listed
+      cycles-near : run′ .cycles .0 ≤ run .cycles .0 + dearest
+      cycles-near = omega (arith, visited .cycles-are, cost-few there)
 
-  region-at : (layout : List ℕ) → regions ≡ table 32 (regionOf layout) → regionOf layout (functionOf (problemOf l) v) ≡ getD regions f 0
-  region-at layout is =
-      ap (regionOf layout) (sym fn-is)
-      ∙ sym (getD-table 32 (regionOf layout) f 0 function-few)
-      ∙ ap (λ (x : List ℕ). getD x f 0) (sym is)
-
-  module _ (o : ℕ) (own-is : o ≡ ownCost (problemOf l) v) where
-    pub own-few : o ≤ 16777215
-    own-few = omega (arith, own-small l (visiting .checked) v (visiting .known))
-
-    pub hit-visit : (before : List ℕ) → getD before (getD regions f 0) 0 ≡ f →
-        Visited l regions before (set before (getD regions f 0) f) run (record { cycles = cyclesOf (run .cycles .0 + o); loads = run .loads }) v
-    hit-visit before same =
-        record {
-          goes-on = λ layout h is ran.
-              hits (problemOf l) layout h v f (getD regions f 0) (sym fn-is) (region-at layout is) function-few region-few before run ran o (sym own-is) same;
-          cycles-near = omega (arith, own-few);
-          loads-near = omega arith;
-        }
-
-    module _ (c : ℕ) (load-is : c ≡ loadCost (problemOf l) f) where
-      pub load-few : c ≤ 16777215
-      load-few = omega (arith, load-small l (visiting .checked) f listed)
-
-      pub miss-visit : (before : List ℕ) → (getD before (getD regions f 0) 0 ≡ f → ⊥) →
-          Visited l regions before (set before (getD regions f 0) f) run (record { cycles = cyclesOf (run .cycles .0 + o + c); loads = run .loads + 1 }) v
-      miss-visit before other =
-          record {
-            goes-on = λ layout h is ran.
-                misses (problemOf l) layout h v f (getD regions f 0) (sym fn-is) (region-at layout is) function-few region-few before run ran o c (sym own-is)
-                (ap (loadCost (problemOf l)) (sym fn-is) ∙ sym load-is)
-                other;
-            cycles-near = omega (arith, own-few, load-few);
-            loads-near = omega arith;
-          }
+      loads-near : run′ .loads ≤ run .loads + 1
+      loads-near = omega (arith, visited .loads-are, one-load places costs before run v (loadsAt places before v) refl)
 
 -- After i visits of a walk.
 pub record Running (p : Problem) (layout walk : List ℕ) (i : ℕ) (held : List ℕ) (run : Run) : Type 0 where
@@ -159,23 +170,19 @@ module _ (p : Problem) (layout : List ℕ) where
     run-over i held run over running =
         rw (← running .rest, drop-of-length-le walk over) (running .ran)
 
-module _ (l layout walk regions : List ℕ) (is : regions ≡ table 32 (regionOf layout)) (i : ℕ) (held : List ℕ) (run : Run) where
-  pub ready : Runnable l layout walk → i < length walk → Running (problemOf l) layout walk i held run → Visiting l regions run (getD walk i 0)
-  ready runnable more running =
-      record {
-        checked = runnable .checked;
-        known = entries-known (problemOf l) walk [] 0 (runnable .accepted) i more;
-        inside = λ f listed-f.
-            let at : getD regions f 0 ≡ regionOf layout f =
-            ap (λ (x : List ℕ). getD x f 0) is ∙ getD-table 32 (regionOf layout) f 0 (omega (arith, functions-few l (runnable .checked))) in
-            omega (arith, runnable .regions f listed-f);
-        cycles-fit = omega (arith, running .cycles-few, runnable .short);
-        loads-fit = omega (arith, running .loads-few, runnable .short);
-      }
+module _ (l layout walk : List ℕ) (runnable : Runnable l layout walk) (places costs : List ℕ) (placed : Places (problemOf l) layout places) (priced : Costs (problemOf l) costs)
+    (i : ℕ) (held : List ℕ) (run : Run) (more : i < length walk) (running : Running (problemOf l) layout walk i held run) where
+  known : getD walk i 0 < problemOf l .«vertex_count»
+  known = entries-known (problemOf l) walk [] 0 (runnable .accepted) i more
 
-  pub next-visit : (after : List ℕ) (run′ : Run) → i < length walk → Running (problemOf l) layout walk i held run →
-      Visited l regions held after run run′ (getD walk i 0) → Running (problemOf l) layout walk (i + 1) after run′
-  next-visit after run′ more running visited =
+  pub ready : Visiting places costs run (getD walk i 0)
+  ready =
+      may-visit l (runnable .checked) layout places costs placed priced (getD walk i 0) known (runnable .regions) run
+      (omega (arith, running .cycles-few, runnable .short))
+      (omega (arith, running .loads-few, runnable .short))
+
+  pub next-visit : (after : List ℕ) (run′ : Run) → Visited places costs held after run run′ (getD walk i 0) → Running (problemOf l) layout walk (i + 1) after run′
+  next-visit after run′ visited =
       record {
         history = getD walk i 0 ∷ running .history;
         within = omega arith;
@@ -183,7 +190,7 @@ module _ (l layout walk regions : List ℕ) (is : regions ≡ table 32 (regionOf
             ap (λ (k : ℕ). reverseAux (drop k walk) (getD walk i 0 ∷ running .history)) (add-one i)
             ∙ ap (λ (x : List ℕ). reverseAux x (running .history)) (sym (drop-cons walk i 0 more))
             ∙ running .rest;
-        ran = visited .goes-on layout (running .history) is (running .ran);
-        cycles-few = omega (arith, visited .cycles-near, running .cycles-few);
-        loads-few = omega (arith, visited .loads-near, running .loads-few);
+        ran = ran-on l (runnable .checked) layout places costs placed priced (getD walk i 0) known (runnable .regions) held after run run′ visited (running .history) (running .ran);
+        cycles-few = omega (arith, running .cycles-few, cycles-near l (runnable .checked) layout places costs placed priced (getD walk i 0) known (runnable .regions) held after run run′ visited);
+        loads-few = omega (arith, running .loads-few, loads-near l (runnable .checked) layout places costs placed priced (getD walk i 0) known (runnable .regions) held after run run′ visited);
       }

@@ -1,13 +1,16 @@
 -- What running a walk keeps: the cycles, the loads and the function held in each region, after a history.
-use Prim.Native.Nat.{ℕ, _+_, _≤_, _<_}
+use Prim.Native.Nat.{ℕ, _+_, _*_, _≤_, _<_}
 use mathlib.Core.Path.{_≡_}
-use mathlib.Core.List.{List, [], _∷_}
-use lib.ListN.{length, getD}
+use mathlib.Core.List.{List, []}
+use mathlib.Core.Bool.{cond}
+use lib.ListN.{length, getD, set}
+use lib.Dec.{eqb}
 use Rattle.model.specs.declared.Problem.{Problem}
 use Rattle.model.specs.declared.Run.{Run}
 use Rattle.model.specs.declared.Verdict.the-variants.{Accepted}
 use Rattle.model.specs.Numbers.{table, problemOf}
 use Rattle.model.specs.Operations.{Checked}
+use Rattle.model.specs.Costs.{functionOf, ownCost, loadCost}
 use Rattle.model.specs.Layouts.{regionOf}
 use Rattle.model.specs.Runs.{cycles, loads, heldAfter}
 use Rattle.model.specs.Verdicts.{judgeWalk, walkLimit}
@@ -18,22 +21,36 @@ pub record Ran (p : Problem) (layout h held : List ℕ) (run : Run) : Type 0 whe
   pub loads-are : run .loads ≡ loads p layout h
   pub held-are : held ≡ table 32 (heldAfter p layout h)
 
--- The most that a visit costs: its own cost and a load.
-abbrev pub dearest : ℕ
-dearest = 33554430
+-- A table with two numbers for each k below n.
+pub record Pairs (first second : ℕ → ℕ) (n : ℕ) (t : List ℕ) : Type 0 where
+  pub long : length t ≡ 256
+  pub one : (k : ℕ) → k < n → getD t (2 * k) 0 ≡ first k
+  pub other : (k : ℕ) → k < n → getD t (2 * k + 1) 0 ≡ second k
 
--- A visit to v, with the functions' regions at hand.
-pub record Visiting (l regions : List ℕ) (run : Run) (v : ℕ) : Type 0 where
-  pub checked : Checked l
-  pub known : v < problemOf l .«vertex_count»
-  pub inside : (f : ℕ) → f < problemOf l .«function_count» → getD regions f 0 < 32
-  pub cycles-fit : run .cycles .0 + dearest < 18446744073709551616
+-- Each vertex's function and its region.
+abbrev pub Places : Problem → List ℕ → List ℕ → Type 0
+Places p layout t = Pairs (functionOf p) (λ v. regionOf layout (functionOf p v)) (p .«vertex_count») t
+
+-- The cost of a visit to each vertex without a load, and with one.
+abbrev pub Costs : Problem → List ℕ → Type 0
+Costs p t = Pairs (ownCost p) (λ v. ownCost p v + loadCost p (functionOf p v)) (p .«vertex_count») t
+
+-- The loads of a visit to v, by the tables.
+abbrev pub loadsAt : List ℕ → List ℕ → ℕ → ℕ
+loadsAt places held v = cond (eqb (getD held (getD places (2 * v + 1) 0) 0) (getD places (2 * v) 0)) 0 1
+
+-- A visit to v, by the tables, from a state that leaves room for its cost.
+pub record Visiting (places costs : List ℕ) (run : Run) (v : ℕ) : Type 0 where
+  pub inside : v < 128
+  pub function-small : getD places (2 * v) 0 < 256
+  pub region-small : getD places (2 * v + 1) 0 < 32
+  pub cycles-fit : (loads : ℕ) → loads ≤ 1 → run .cycles .0 + getD costs (2 * v + loads) 0 < 18446744073709551616
   pub loads-fit : run .loads + 1 < 18446744073709551616
 
-pub record Visited (l regions before after : List ℕ) (run run′ : Run) (v : ℕ) : Type 0 where
-  pub goes-on : (layout h : List ℕ) → regions ≡ table 32 (regionOf layout) → Ran (problemOf l) layout h before run → Ran (problemOf l) layout (v ∷ h) after run′
-  pub cycles-near : run′ .cycles .0 ≤ run .cycles .0 + dearest
-  pub loads-near : run′ .loads ≤ run .loads + 1
+pub record Visited (places costs before after : List ℕ) (run run′ : Run) (v : ℕ) : Type 0 where
+  pub cycles-are : run′ .cycles .0 ≡ run .cycles .0 + getD costs (2 * v + loadsAt places before v) 0
+  pub loads-are : run′ .loads ≡ run .loads + loadsAt places before v
+  pub held-are : after ≡ set before (getD places (2 * v + 1) 0) (getD places (2 * v) 0)
 
 -- A walk that Run runs: each refusal before the result is ruled out.
 pub record Runnable (l layout walk : List ℕ) : Type 0 where

@@ -5,8 +5,8 @@ use lib.ListN.{length}
 use borrow.Author.Needs.{needs}
 use Rattle.model.specs.Numbers.{problemOf}
 use Rattle.model.specs.Graph.{edgesOf}
-use Rattle.walk.proofs.Places.{counted}
-use Rattle.walk.proofs.Steps.{Marked, start-marked, from-inside, mark-inside, edge-marked, all-marked}
+use Rattle.file.proofs.Counts.{counted}
+use Rattle.walk.proofs.Steps.{Marked, start-marked, mark-inside, edge-marked, all-marked}
 use Rattle.walk.proofs.step_table.Statement.{statement}
 use Rattle.walk.proofs.step_table.Tie as tie
 
@@ -20,27 +20,29 @@ array-write-table : tie.Need-array-write-table Inv-loop μ-loop
 array-write-table c = search needs
 
 edge-count-requires : tie.Need-edge-count-requires Inv-loop μ-loop
-edge-count-requires c κs = counted _ (c .pre)
+edge-count-requires c κs = counted _ _ (c .pre .fields)
 
 loop-holds : tie.Need-loop-holds Inv-loop μ-loop
 loop-holds c = (search needs, start-marked _)
 
 edge-from-requires : tie.Need-edge-from-requires Inv-loop μ-loop
-edge-from-requires c κs = (counted _ (c .before .before .before .pre), search needs)
-
-mul-place : tie.Need-mul-place Inv-loop μ-loop
-mul-place c =
-    omega (arith, c .edge-from .ensures, from-inside _ (c .before .before .before .before .pre) (c .before .before .loop .i) (omega arith))
+edge-from-requires c κs = (counted _ _ (c .before .before .before .pre .fields), search needs)
 
 edge-to-requires : tie.Need-edge-to-requires Inv-loop μ-loop
-edge-to-requires c κs = (counted _ (c .before .before .before .before .pre), search needs)
+edge-to-requires c κs = (counted _ _ (c .before .before .before .before .pre .fields), search needs)
 
-inside : (c : tie.After-edge-to Inv-loop μ-loop) → 128 * c .before .edge-from .result + c .edge-to .result < 16384
+step-along-requires : tie.Need-step-along-requires Inv-loop μ-loop
+step-along-requires c κs = search needs
+
+inside : (c : tie.After-step-along Inv-loop μ-loop) → 128 * c .before .before .edge-from .result + c .before .edge-to .result < 16384
 inside c =
-    mark-inside _ (c .before .before .before .before .before .pre) (c .before .before .before .loop .i) _ _ (omega arith) (c .before .edge-from .ensures) (c .edge-to .ensures)
+    mark-inside _ (c .before .before .before .before .before .before .pre) (c .before .before .before .before .loop .i) _ _ _ (omega arith) (c .before .before .edge-from .ensures) (c .before .edge-to .ensures) (c .step-along .ensures)
 
-add-place : tie.Need-add-place Inv-loop μ-loop
-add-place c = omega (arith, inside c)
+mul-table : tie.Need-mul-table Inv-loop μ-loop
+mul-table c = omega (arith, inside c)
+
+add-table : tie.Need-add-table Inv-loop μ-loop
+add-table c = omega (arith, inside c)
 
 array-write-table-2 : tie.Need-array-write-table-2 Inv-loop μ-loop
 array-write-table-2 c = omega (arith, inside c)
@@ -53,7 +55,7 @@ loop-less c = search needs
 
 loop-again : tie.Need-loop-again Inv-loop μ-loop
 loop-again c =
-    (search needs, edge-marked _ (c .before .before .before .before .before .pre) (c .before .before .before .loop .i) _ _ (omega arith) (c .before .edge-from .ensures) (c .edge-to .ensures) _ (c .before .before .before .loop .inv .1))
+    (search needs, edge-marked _ (c .before .before .before .before .before .before .pre) (c .before .before .before .before .loop .i) _ _ _ (omega arith) (c .before .before .edge-from .ensures) (c .before .edge-to .ensures) (c .step-along .ensures) _ (c .before .before .before .before .loop .inv .1))
 
 returns : tie.Need-returns Inv-loop μ-loop
 returns c =
@@ -69,9 +71,10 @@ step-table-spec =
     edge-count-requires
     loop-holds
     edge-from-requires
-    mul-place
     edge-to-requires
-    add-place
+    step-along-requires
+    mul-table
+    add-table
     array-write-table-2
     add-i
     loop-less
