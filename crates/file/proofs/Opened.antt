@@ -51,9 +51,6 @@ module _ (p : Problem) (l : List ℕ) (numbered : Numbered p l) (f : Fields) (is
   refused-problem r x e q = verdict-is _ e ∙ ap verdict.Refused (sym (q ∙ ap refusalIn e))
 
   module _ (need : ℕ) (e : f ≡ Done need) where
-    pub accepted-problem : judgeProblem p ≡ verdict.Accepted
-    accepted-problem = verdict-is _ e
-
     pub opened : Checked l
     unfolding checkNumbers
     opened =

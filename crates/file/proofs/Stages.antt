@@ -12,7 +12,6 @@ use Rattle.model.specs.declared.Verdict.the-variants as verdict
 use Rattle.model.specs.declared.Fields.{Fields}
 use Rattle.model.specs.declared.Fields.the-variants as fields
 use Rattle.model.specs.declared.Problem.{Problem}
-use Rattle.model.specs.declared.ReadAnswer.{ReadAnswer}
 use Rattle.model.specs.declared.WriteAnswer.{WriteAnswer}
 use Rattle.model.specs.declared.WriteAnswer.the-variants as write
 use Rattle.model.specs.Zero.{zeroProblem}

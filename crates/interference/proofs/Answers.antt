@@ -20,7 +20,7 @@ use Rattle.model.specs.Numbers.{problemOf}
 use Rattle.model.specs.Graph.{andThen}
 use Rattle.model.specs.Operations.{Checked}
 use Rattle.model.specs.Verdicts.{judgeProblem, wordCount, judgeInterference}
-use Rattle.model.specs.Results.{Sets, InterferenceSays}
+use Rattle.model.specs.Results.{InterferenceSays}
 use Rattle.numbers.specs.Numbered.{Numbered}
 use Rattle.file.specs.Steps.{refusalIn, checkNumbers}
 use Rattle.file.proofs.Opened.{refused-problem, same-problem, checked-problem}
