@@ -1,17 +1,8 @@
--- Sums and products kept up to a cap, as a program makes them.
+-- Products kept up to a cap, as a program makes them.
 use Prim.Native.Nat.{ℕ, _+_, _*_, _/_, _<_, min}
 use mathlib.Core.Path.{_≡_}
 use native.Mathlib.Omega.{arith}
 use native.Mathlib.Nat.{lt-mul-div-succ, mul-le-mul-left}
-
-pub cap-same : (cap x : ℕ) → min cap (min cap x) ≡ min cap x
-cap-same cap x = omega arith
-
-pub cap-add : (cap x y : ℕ) → min cap (min cap x + min cap y) ≡ min cap (x + y)
-cap-add cap x y = omega arith
-
-pub cap-add₃ : (cap x y z : ℕ) → min cap (x + min cap y + z) ≡ min cap (x + y + z)
-cap-add₃ cap x y z = omega arith
 
 -- A product past the cap is seen by a division.
 pub cap-mul-over : (cap k t : ℕ) → 0 < k → cap / k < t → min cap (k * t) ≡ cap
