@@ -2,125 +2,73 @@
 use model::Field;
 ghost use mathlib.Core.Path.{_≡_};
 ghost use Prim.Native.Nat.{ℕ, _+_, _≤_, _<_};
+ghost use lib.ListN.{getD};
 ghost use Rattle.fields.specs.Valid.{Placed};
-ghost use Rattle.model.specs.Table.{least, greatest, base, kind, jump, countOver};
+ghost use Rattle.fields.specs.Rows.{entry, rows};
 ghost use Rattle.model.specs.File.{nextField, afterCount, afterItem, inRange, belowCount, fromHeader, edgeBefore, itemStart};
 
-// The least and the greatest value of each row, in file order.
-const LIMITS: [u64; 30] = [
-    1,
-    1,
-    1,
-    16777215,
-    1,
-    32,
-    1,
-    16777215,
-    0,
-    16777215,
-    1,
-    128,
-    0,
-    31,
-    0,
-    16777215,
-    0,
-    512,
-    0,
-    127,
-    0,
-    127,
-    0,
-    32,
-    0,
-    127,
-    0,
-    127,
-    1,
-    65535,
+// The columns of the field table: the least and the greatest value of a row; the place of its first number; its kind (0 a number by itself, 1 the
+// count of a list, 2 the first number of an item, 3 one between, 4 the last); the row that the count of an empty list leads to, or an item's last
+// number where another item follows; the place of the count that the row's numbers stay below, or 0.
+const LEAST: usize = 0;
+
+const GREATEST: usize = 1;
+
+const BASE: usize = 2;
+
+const KIND: usize = 3;
+
+const JUMP: usize = 4;
+
+const COUNT: usize = 5;
+
+// The rows, in file order, and the end of the file.
+const TABLE: [[usize; 6]; 16] = [
+    [1, 1, 0, 0, 0, 0],
+    [1, 16777215, 1, 0, 0, 0],
+    [1, 32, 2, 1, 5, 0],
+    [1, 16777215, 3, 2, 0, 0],
+    [0, 16777215, 4, 4, 3, 0],
+    [1, 128, 67, 1, 8, 0],
+    [0, 31, 68, 2, 0, 2],
+    [0, 16777215, 69, 4, 6, 0],
+    [0, 512, 324, 1, 11, 0],
+    [0, 127, 325, 2, 0, 67],
+    [0, 127, 326, 4, 9, 67],
+    [0, 32, 1349, 1, 15, 0],
+    [0, 127, 1350, 2, 0, 67],
+    [0, 127, 1351, 3, 0, 67],
+    [1, 65535, 1352, 4, 12, 0],
+    [0, 0, 1446, 0, 0, 0],
 ];
 
-// The place of each row's first number, and the end of the places.
-const BASES: [usize; 16] = [
-    0,
-    1,
-    2,
-    3,
-    4,
-    67,
-    68,
-    69,
-    324,
-    325,
-    326,
-    1349,
-    1350,
-    1351,
-    1352,
-    1446,
-];
-
-// 0 a number by itself, 1 the count of a list, 2 the first number of an item, 3 one between, 4 the last.
-const KINDS: [usize; 15] = [0, 0, 1, 2, 4, 1, 2, 4, 1, 2, 4, 1, 2, 3, 4];
-
-// Where the count of an empty list leads, and an item's last number where another item follows.
-const JUMPS: [usize; 15] = [0, 0, 5, 0, 3, 8, 0, 6, 11, 0, 9, 15, 0, 0, 12];
-
-// The place of the count that a row's numbers stay below, or 0.
-const COUNTS: [usize; 15] = [0, 0, 0, 0, 0, 0, 2, 0, 0, 67, 67, 0, 67, 67, 0];
-
-fn least_of(row: usize) -> u64
-    requires { ⌜ row < 15 ⌝ }
-    ensures { λ r. ⌜ r ≡ least row ⌝ }
+// The table in memory: who goes through the fields has it made once, and lends it to every step.
+pub fn table() -> [[usize; 6]; 16]
+    ensures { λ r. ⌜ r ≡ rows ⌝ }
 {
-    LIMITS[2 * row]
+    TABLE
 }
 
-fn greatest_of(row: usize) -> u64
-    requires { ⌜ row < 15 ⌝ }
-    ensures { λ r. ⌜ r ≡ greatest row ⌝ }
-{
-    LIMITS[2 * row + 1]
-}
-
-fn base_of(row: usize) -> usize
+fn look_up(table: &[[usize; 6]; 16], row: usize, column: usize) -> usize
+    requires { ⌜ now table ≡ rows ⌝ }
     requires { ⌜ row < 16 ⌝ }
-    ensures { λ r. ⌜ r ≡ base row ⌝ }
+    requires { ⌜ column < 6 ⌝ }
+    ensures { λ r. ⌜ r ≡ getD (entry row) column 0 ⌝ }
 {
-    BASES[row]
-}
-
-fn kind_of(row: usize) -> usize
-    requires { ⌜ row < 15 ⌝ }
-    ensures { λ r. ⌜ r ≡ kind row ⌝ }
-{
-    KINDS[row]
-}
-
-fn jump_of(row: usize) -> usize
-    requires { ⌜ row < 15 ⌝ }
-    ensures { λ r. ⌜ r ≡ jump row ⌝ }
-{
-    JUMPS[row]
-}
-
-fn count_over(row: usize) -> usize
-    requires { ⌜ row < 15 ⌝ }
-    ensures { λ r. ⌜ r ≡ countOver row ⌝ }
-{
-    COUNTS[row]
+    table[row][column]
 }
 
 // The field after a list's count: its first item's first number, or where an empty list leads.
-fn after_count(c: Field, v: u64) -> Field
+fn after_count(table: &[[usize; 6]; 16], c: Field, v: u64) -> Field
+    requires { ⌜ now table ≡ rows ⌝ }
     requires { ⌜ Placed c ⌝ }
     ensures { λ r. ⌜ r ≡ afterCount c v ⌝ }
 {
     if v == 0 {
-        let row = jump_of(c.row);
+        let row = look_up(table, c.row, JUMP);
         return Field {
             row: row,
-            place: base_of(row),
+            place: look_up(table, row, BASE),
             left: 0,
         };
     }
@@ -132,7 +80,8 @@ fn after_count(c: Field, v: u64) -> Field
 }
 
 // The field after an item's last number: the next item's first, or what follows the list.
-fn after_item(c: Field) -> Field
+fn after_item(table: &[[usize; 6]; 16], c: Field) -> Field
+    requires { ⌜ now table ≡ rows ⌝ }
     requires { ⌜ Placed c ⌝ }
     ensures { λ r. ⌜ r ≡ afterItem c ⌝ }
 {
@@ -140,28 +89,29 @@ fn after_item(c: Field) -> Field
         let row = c.row + 1;
         return Field {
             row: row,
-            place: base_of(row),
+            place: look_up(table, row, BASE),
             left: 0,
         };
     }
     Field {
-        row: jump_of(c.row),
+        row: look_up(table, c.row, JUMP),
         place: c.place + 1,
         left: c.left - 1,
     }
 }
 
 // The field after c, at which v stands.
-pub fn next_field(c: Field, v: u64) -> Field
+pub fn next_field(table: &[[usize; 6]; 16], c: Field, v: u64) -> Field
+    requires { ⌜ now table ≡ rows ⌝ }
     requires { ⌜ Placed c ⌝ }
     ensures { λ r. ⌜ r ≡ nextField c v ⌝ }
 {
-    let kind = kind_of(c.row);
+    let kind = look_up(table, c.row, KIND);
     if kind == 1 {
-        return after_count(c, v);
+        return after_count(table, c, v);
     }
     if kind == 4 {
-        return after_item(c);
+        return after_item(table, c);
     }
     Field {
         row: c.row + 1,
@@ -171,11 +121,12 @@ pub fn next_field(c: Field, v: u64) -> Field
 }
 
 // Where a count read earlier narrows the row: v stays below it.
-fn below_count(l: &[u64; 1446], row: usize, v: u64) -> bool
+fn below_count(table: &[[usize; 6]; 16], l: &[u64; 1446], row: usize, v: u64) -> bool
+    requires { ⌜ now table ≡ rows ⌝ }
     requires { ⌜ row < 15 ⌝ }
     ensures { λ r. ⌜ r ≡ belowCount (now (l .entry)) row v ⌝ }
 {
-    let over = count_over(row);
+    let over = look_up(table, row, COUNT);
     if over == 0 {
         return true;
     }
@@ -195,17 +146,18 @@ fn from_header(l: &[u64; 1446], c: Field, v: u64) -> bool
 }
 
 // Whether v may stand at c, where l has the numbers before it.
-pub fn in_range(l: &[u64; 1446], c: Field, v: u64) -> bool
+pub fn in_range(table: &[[usize; 6]; 16], l: &[u64; 1446], c: Field, v: u64) -> bool
+    requires { ⌜ now table ≡ rows ⌝ }
     requires { ⌜ Placed c ⌝ }
     ensures { λ r. ⌜ r ≡ inRange (now (l .entry)) c v ⌝ }
 {
-    if v < least_of(c.row) {
+    if v < look_up(table, c.row, LEAST) as u64 {
         return false;
     }
-    if greatest_of(c.row) < v {
+    if (look_up(table, c.row, GREATEST) as u64) < v {
         return false;
     }
-    if !below_count(l, c.row, v) {
+    if !below_count(table, l, c.row, v) {
         return false;
     }
     from_header(l, c, v)
@@ -225,12 +177,13 @@ fn edge_before(from: u64, to: u64, from2: u64, to2: u64) -> bool
 }
 
 // Whether the item whose last number stands at c may follow the item before it.
-pub fn ascends(l: &[u64; 1446], c: Field) -> bool
+pub fn ascends(table: &[[usize; 6]; 16], l: &[u64; 1446], c: Field) -> bool
+    requires { ⌜ now table ≡ rows ⌝ }
     requires { ⌜ Placed c ⌝ }
     ensures { λ r. ⌜ r ≡ Rattle.model.specs.File.ascends (now (l .entry)) c ⌝ }
 {
     let k = c.place;
-    if k == base_of(c.row) {
+    if k == look_up(table, c.row, BASE) {
         return true;
     }
     if c.row == 10 {
@@ -243,11 +196,12 @@ pub fn ascends(l: &[u64; 1446], c: Field) -> bool
 }
 
 // Where the item that c belongs to starts, if c stands at a position and `start` was said of the field before.
-pub fn item_start(c: Field, at: usize, start: usize) -> usize
+pub fn item_start(table: &[[usize; 6]; 16], c: Field, at: usize, start: usize) -> usize
+    requires { ⌜ now table ≡ rows ⌝ }
     requires { ⌜ c .row < 15 ⌝ }
     ensures { λ r. ⌜ r ≡ itemStart c at start ⌝ }
 {
-    if kind_of(c.row) == 2 {
+    if look_up(table, c.row, KIND) == 2 {
         return at;
     }
     start

@@ -35,6 +35,7 @@ fn misread_at(number: Number, size: usize, at: usize) -> Fields
 pub fn read_fields(bytes: &[u8], numbers: &mut [u64; 1446]) -> Fields
     ensures { λ r. ⌜ scanned r (now (numbers .exit)) ≡ readFrom numberCount (now (bytes .entry)) 0 0 firstField (now (numbers .entry)) ⌝ }
 {
+    let table = fields::table();
     let mut field = first_field();
     let mut at: usize = 0;
     let mut start: usize = 0;
@@ -47,16 +48,16 @@ pub fn read_fields(bytes: &[u8], numbers: &mut [u64; 1446]) -> Fields
         let Number::Value(value, next) = number else {
             return misread_at(number, bytes.len(), at);
         };
-        if !fields::in_range(numbers, field, value) {
+        if !fields::in_range(&table, numbers, field, value) {
             return Fields::Refused(Refusal::OutOfRange(at as u64));
         }
         let place = field.place;
         numbers[place] = value;
-        start = fields::item_start(field, at, start);
-        if !fields::ascends(numbers, field) {
+        start = fields::item_start(&table, field, at, start);
+        if !fields::ascends(&table, numbers, field) {
             return Fields::Refused(Refusal::NotAscending(start as u64));
         }
-        field = fields::next_field(field, value);
+        field = fields::next_field(&table, field, value);
         at = next;
         count += 1;
     }
@@ -67,6 +68,7 @@ pub fn read_fields(bytes: &[u8], numbers: &mut [u64; 1446]) -> Fields
 pub fn check_fields(numbers: &[u64; 1446]) -> Fields
     ensures { λ r. ⌜ r ≡ checkFields (now (numbers .entry)) ⌝ }
 {
+    let table = fields::table();
     let mut field = first_field();
     let mut at: usize = 0;
     let mut start: usize = 0;
@@ -77,14 +79,14 @@ pub fn check_fields(numbers: &[u64; 1446]) -> Fields
         }
         let place = field.place;
         let value = numbers[place];
-        if !fields::in_range(numbers, field, value) {
+        if !fields::in_range(&table, numbers, field, value) {
             return Fields::Refused(Refusal::OutOfRange(at as u64));
         }
-        start = fields::item_start(field, at, start);
-        if !fields::ascends(numbers, field) {
+        start = fields::item_start(&table, field, at, start);
+        if !fields::ascends(&table, numbers, field) {
             return Fields::Refused(Refusal::NotAscending(start as u64));
         }
-        field = fields::next_field(field, value);
+        field = fields::next_field(&table, field, value);
         at += spelling::number_size(value);
         count += 1;
     }
@@ -96,6 +98,7 @@ pub fn write_fields(buf: &mut [u8], numbers: &[u64; 1446]) -> usize
     requires { ⌜ Fits (now numbers) (now buf) ⌝ }
     ensures { λ r. ⌜ Fields.Done r ≡ checkFields (now (numbers .entry)) ⌝ ∗ ⌜ now (buf .exit) ≡ sets (now (buf .entry)) 0 (fileBytes (now (numbers .entry))) ⌝ }
 {
+    let table = fields::table();
     let mut field = first_field();
     let mut at: usize = 0;
     let mut count: usize = 0;
@@ -106,7 +109,7 @@ pub fn write_fields(buf: &mut [u8], numbers: &[u64; 1446]) -> usize
         let place = field.place;
         let value = numbers[place];
         at = spelling::write_number(buf, at, value);
-        field = fields::next_field(field, value);
+        field = fields::next_field(&table, field, value);
         count += 1;
     }
     at

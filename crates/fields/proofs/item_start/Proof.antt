@@ -4,14 +4,14 @@ use borrow.Author.Needs.{needs}
 use Rattle.fields.proofs.item_start.Statement.{statement}
 use Rattle.fields.proofs.item_start.Tie as tie
 
-kind-of-requires : tie.Need-kind-of-requires
-kind-of-requires c κs = search needs
+look-up-requires : tie.Need-look-up-requires
+look-up-requires c κs = search needs
 
 returns : tie.Need-returns
-returns c = starts _ 0 _ (c .before .kind-of .ensures) _ _ (c .if1 .taken)
+returns c = starts _ 0 _ (c .before .look-up .ensures) _ _ (c .if1 .taken)
 
 returns-2 : tie.Need-returns-2
-returns-2 c = goes-on _ 0 _ (c .before .kind-of .ensures) _ _ (c .if1 .left)
+returns-2 c = goes-on _ 0 _ (c .before .look-up .ensures) _ _ (c .if1 .left)
 
 pub item-start-spec : {M : Type 1} → statement M
-item-start-spec = tie.close (tie.spec kind-of-requires returns returns-2)
+item-start-spec = tie.close (tie.spec look-up-requires returns returns-2)

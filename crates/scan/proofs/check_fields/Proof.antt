@@ -22,16 +22,19 @@ record Judging (numbers : List ℕ) (field : Field) (at start count : ℕ) : Typ
   same : checkFrom (numberCount - count) at start field numbers ≡ checkFrom numberCount 0 0 firstField numbers
 
 abbrev Inv-loop : tie.InvT-loop
-Inv-loop numbers field₀ at₀ start₀ count₀ field at start count = Judging numbers field at start count
+Inv-loop numbers table field₀ at₀ start₀ count₀ field at start count = Judging numbers field at start count
 
 abbrev μ-loop : tie.MeasureT-loop
-μ-loop numbers field₀ at₀ start₀ count₀ field at start count = numberCount - count
+μ-loop numbers table field₀ at₀ start₀ count₀ field at start count = numberCount - count
+
+table-requires : tie.Need-table-requires Inv-loop μ-loop
+table-requires c κs = search needs
 
 first-field-requires : tie.Need-first-field-requires Inv-loop μ-loop
 first-field-requires c κs = search needs
 
 loop-holds : tie.Need-loop-holds Inv-loop μ-loop
-loop-holds c = record { few = search needs; near = omega arith; valid = rw (c .first-field .ensures) edition; same = ap (λ (x : Field). checkFrom numberCount 0 0 x (c .before .args .numbers .now)) (c .first-field .ensures) }
+loop-holds c = record { few = search needs; near = omega arith; valid = rw (c .first-field .ensures) edition; same = ap (λ (x : Field). checkFrom numberCount 0 0 x (c .before .before .args .numbers .now)) (c .first-field .ensures) }
 
 returns : tie.Need-returns Inv-loop μ-loop
 returns c = check-end _ _ _ _ _ _ _ (left-of _ _ (c .before .before .loop-test .taken)) (c .before .before .before .loop .inv .same) (c .if1 .taken)
@@ -43,22 +46,22 @@ element-copy-out-value : tie.Need-element-copy-out-value Inv-loop μ-loop
 element-copy-out-value c = placed (c .before .before .before .loop .inv .valid) (c .if1 .left) .place
 
 in-range-requires : tie.Need-in-range-requires Inv-loop μ-loop
-in-range-requires c κs = placed (c .before .before .before .before .loop .inv .valid) (c .before .if1 .left)
+in-range-requires c κs = (c .before .before .before .before .before .before .before .table .ensures, placed (c .before .before .before .before .before .loop .inv .valid) (c .before .before .if1 .left))
 
 returns-2 : tie.Need-returns-2 Inv-loop μ-loop
-returns-2 c = check-out _ _ _ _ _ _ _ (left-of _ _ (c .before .before .before .before .before .loop-test .taken)) (c .before .before .before .before .before .before .loop .inv .same) (c .before .before .before .if1 .left) _ (c .before .in-range .ensures) (not-true _ (c .if2 .taken))
+returns-2 c = check-out _ _ _ _ _ _ _ (left-of _ _ (c .before .before .before .before .before .before .loop-test .taken)) (c .before .before .before .before .before .before .before .loop .inv .same) (c .before .before .before .before .if1 .left) _ (c .before .in-range .ensures) (not-true _ (c .if2 .taken))
 
 item-start-requires : tie.Need-item-start-requires Inv-loop μ-loop
-item-start-requires c κs = placed (c .before .before .before .before .before .before .loop .inv .valid) (c .before .before .before .if1 .left) .row
+item-start-requires c κs = (c .before .before .before .before .before .before .before .before .before .before .table .ensures, placed (c .before .before .before .before .before .before .before .before .loop .inv .valid) (c .before .before .before .before .before .if1 .left) .row)
 
 ascends-requires : tie.Need-ascends-requires Inv-loop μ-loop
-ascends-requires c κs = placed (c .before .before .before .before .before .before .before .loop .inv .valid) (c .before .before .before .before .if1 .left)
+ascends-requires c κs = (c .before .before .before .before .before .before .before .before .before .before .before .before .table .ensures, placed (c .before .before .before .before .before .before .before .before .before .before .loop .inv .valid) (c .before .before .before .before .before .before .before .if1 .left))
 
 returns-3 : tie.Need-returns-3 Inv-loop μ-loop
-returns-3 c = check-disorder _ _ _ _ _ _ _ (left-of _ _ (c .before .before .before .before .before .before .before .before .loop-test .taken)) (c .before .before .before .before .before .before .before .before .before .loop .inv .same) (c .before .before .before .before .before .before .if1 .left) _ (c .before .before .before .before .in-range .ensures) (not-false _ (c .before .before .before .if2 .left)) _ (c .before .before .item-start .ensures) _ (c .before .ascends .ensures) (not-true _ (c .if3 .taken))
+returns-3 c = check-disorder _ _ _ _ _ _ _ (left-of _ _ (c .before .before .before .before .before .before .before .before .before .before .before .loop-test .taken)) (c .before .before .before .before .before .before .before .before .before .before .before .before .loop .inv .same) (c .before .before .before .before .before .before .before .before .before .if1 .left) _ (c .before .before .before .before .before .before .in-range .ensures) (not-false _ (c .before .before .before .before .before .if2 .left)) _ (c .before .before .before .item-start .ensures) _ (c .before .ascends .ensures) (not-true _ (c .if3 .taken))
 
 next-field-requires : tie.Need-next-field-requires Inv-loop μ-loop
-next-field-requires c κs = placed (c .before .before .before .before .before .before .before .before .before .loop .inv .valid) (c .before .before .before .before .before .before .if1 .left)
+next-field-requires c κs = (c .before .before .before .before .before .before .before .before .before .before .before .before .before .before .before .table .ensures, placed (c .before .before .before .before .before .before .before .before .before .before .before .before .before .loop .inv .valid) (c .before .before .before .before .before .before .before .before .before .before .if1 .left))
 
 number-size-requires : tie.Need-number-size-requires Inv-loop μ-loop
 number-size-requires c κs = search needs
@@ -76,8 +79,8 @@ loop-again : tie.Need-loop-again Inv-loop μ-loop
 loop-again c = record {
   few = search needs;
   near = omega (arith, size-near _ _ (c .number-size .ensures));
-  valid = later (c .before .before .before .before .before .before .before .before .before .before .before .loop .inv .valid) (c .before .before .before .before .before .before .before .before .if1 .left) _ _ _ (c .before .before .before .before .before .before .in-range .ensures) (not-false _ (c .before .before .before .before .before .if2 .left)) (c .before .next-field .ensures);
-  same = check-next _ _ _ _ _ _ _ (left-of _ _ (c .before .before .before .before .before .before .before .before .before .before .loop-test .taken)) (c .before .before .before .before .before .before .before .before .before .before .before .loop .inv .same) (c .before .before .before .before .before .before .before .before .if1 .left) _ (c .before .before .before .before .before .before .in-range .ensures) (not-false _ (c .before .before .before .before .before .if2 .left)) _ (c .before .before .before .before .item-start .ensures) _ (c .before .before .before .ascends .ensures) _ (c .before .next-field .ensures) _ (c .number-size .ensures) (not-false _ (c .before .before .if3 .left));
+  valid = later (c .before .before .before .before .before .before .before .before .before .before .before .before .before .before .before .loop .inv .valid) (c .before .before .before .before .before .before .before .before .before .before .before .before .if1 .left) _ _ _ (c .before .before .before .before .before .before .before .before .before .in-range .ensures) (not-false _ (c .before .before .before .before .before .before .before .before .if2 .left)) (c .before .next-field .ensures);
+  same = check-next _ _ _ _ _ _ _ (left-of _ _ (c .before .before .before .before .before .before .before .before .before .before .before .before .before .before .loop-test .taken)) (c .before .before .before .before .before .before .before .before .before .before .before .before .before .before .before .loop .inv .same) (c .before .before .before .before .before .before .before .before .before .before .before .before .if1 .left) _ (c .before .before .before .before .before .before .before .before .before .in-range .ensures) (not-false _ (c .before .before .before .before .before .before .before .before .if2 .left)) _ (c .before .before .before .before .before .before .item-start .ensures) _ (c .before .before .before .before .ascends .ensures) _ (c .before .next-field .ensures) _ (c .number-size .ensures) (not-false _ (c .before .before .before .if3 .left));
 }
 
 returns-4 : tie.Need-returns-4 Inv-loop μ-loop
@@ -89,6 +92,7 @@ check-fields-spec =
     (tie.spec
     Inv-loop
     μ-loop
+    table-requires
     first-field-requires
     loop-holds
     returns

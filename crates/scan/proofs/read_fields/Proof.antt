@@ -20,17 +20,20 @@ record Reading (bytes numbers₀ numbers : List ℕ) (field : Field) (at start c
   same : readFrom (numberCount - count) bytes at start field numbers ≡ readFrom numberCount bytes 0 0 firstField numbers₀
 
 abbrev Inv-loop : tie.InvT-loop
-Inv-loop bytes numbers₀ field₀ at₀ start₀ count₀ numbers field at start count =
+Inv-loop bytes numbers₀ table field₀ at₀ start₀ count₀ numbers field at start count =
     Reading bytes numbers₀ numbers field at start count
 
 abbrev μ-loop : tie.MeasureT-loop
-μ-loop bytes numbers₀ field₀ at₀ start₀ count₀ numbers field at start count = numberCount - count
+μ-loop bytes numbers₀ table field₀ at₀ start₀ count₀ numbers field at start count = numberCount - count
+
+table-requires : tie.Need-table-requires Inv-loop μ-loop
+table-requires c κs = search needs
 
 first-field-requires : tie.Need-first-field-requires Inv-loop μ-loop
 first-field-requires c κs = search needs
 
 loop-holds : tie.Need-loop-holds Inv-loop μ-loop
-loop-holds c = record { few = search needs; valid = rw (c .first-field .ensures) edition; same = ap (λ (x : Field). readFrom numberCount (c .before .before .args .bytes .now) 0 0 x (c .before .before .args .numbers .now)) (c .first-field .ensures) }
+loop-holds c = record { few = search needs; valid = rw (c .first-field .ensures) edition; same = ap (λ (x : Field). readFrom numberCount (c .before .before .before .args .bytes .now) 0 0 x (c .before .before .before .args .numbers .now)) (c .first-field .ensures) }
 
 returns : tie.Need-returns Inv-loop μ-loop
 returns c = read-end _ _ _ _ _ _ _ _ (left-of _ _ (c .before .before .loop-test .taken)) (c .before .before .before .loop .inv .same) (c .if1 .taken)
@@ -48,28 +51,28 @@ returns-2 : tie.Need-returns-2 Inv-loop μ-loop
 returns-2 c = read-refused _ _ _ _ _ _ _ _ (left-of _ _ (c .before .before .before .before .before .loop-test .taken)) (c .before .before .before .before .before .before .loop .inv .same) (c .before .before .before .if1 .left) _ (c .before .before .read-number .ensures) (no-value _ (c .before .match .keys2)) _ (c .misread-at .ensures)
 
 in-range-requires : tie.Need-in-range-requires Inv-loop μ-loop
-in-range-requires c κs = placed (c .before .before .before .before .before .before .before .before .loop .inv .valid) (c .before .before .before .before .before .if1 .left)
+in-range-requires c κs = (c .before .before .before .before .before .before .before .before .before .before .before .table .ensures, placed (c .before .before .before .before .before .before .before .before .before .loop .inv .valid) (c .before .before .before .before .before .before .if1 .left))
 
 returns-3 : tie.Need-returns-3 Inv-loop μ-loop
-returns-3 c = read-out _ _ _ _ _ _ _ _ (left-of _ _ (c .before .before .before .before .before .before .before .before .before .loop-test .taken)) (c .before .before .before .before .before .before .before .before .before .before .loop .inv .same) (c .before .before .before .before .before .before .before .if1 .left) _ (c .before .before .before .before .before .before .read-number .ensures) _ _ (c .before .before .before .before .number .given .1) _ (c .before .in-range .ensures) (not-true _ (c .if2 .taken))
+returns-3 c = read-out _ _ _ _ _ _ _ _ (left-of _ _ (c .before .before .before .before .before .before .before .before .before .before .loop-test .taken)) (c .before .before .before .before .before .before .before .before .before .before .before .loop .inv .same) (c .before .before .before .before .before .before .before .before .if1 .left) _ (c .before .before .before .before .before .before .before .read-number .ensures) _ _ (c .before .before .before .before .before .number .given .1) _ (c .before .in-range .ensures) (not-true _ (c .if2 .taken))
 
 mul-numbers : tie.Need-mul-numbers Inv-loop μ-loop
-mul-numbers c = omega (arith, placed (c .before .before .before .before .before .before .before .before .before .before .loop .inv .valid) (c .before .before .before .before .before .before .before .if1 .left) .place)
+mul-numbers c = omega (arith, placed (c .before .before .before .before .before .before .before .before .before .before .before .loop .inv .valid) (c .before .before .before .before .before .before .before .before .if1 .left) .place)
 
 element-write-numbers : tie.Need-element-write-numbers Inv-loop μ-loop
-element-write-numbers c = placed (c .before .before .before .before .before .before .before .before .before .before .loop .inv .valid) (c .before .before .before .before .before .before .before .if1 .left) .place
+element-write-numbers c = placed (c .before .before .before .before .before .before .before .before .before .before .before .loop .inv .valid) (c .before .before .before .before .before .before .before .before .if1 .left) .place
 
 item-start-requires : tie.Need-item-start-requires Inv-loop μ-loop
-item-start-requires c κs = placed (c .before .before .before .before .before .before .before .before .before .before .loop .inv .valid) (c .before .before .before .before .before .before .before .if1 .left) .row
+item-start-requires c κs = (c .before .before .before .before .before .before .before .before .before .before .before .before .before .before .table .ensures, placed (c .before .before .before .before .before .before .before .before .before .before .before .before .loop .inv .valid) (c .before .before .before .before .before .before .before .before .before .if1 .left) .row)
 
 ascends-requires : tie.Need-ascends-requires Inv-loop μ-loop
-ascends-requires c κs = placed (c .before .before .before .before .before .before .before .before .before .before .before .before .loop .inv .valid) (c .before .before .before .before .before .before .before .before .before .if1 .left)
+ascends-requires c κs = (c .before .before .before .before .before .before .before .before .before .before .before .before .before .before .before .before .before .table .ensures, placed (c .before .before .before .before .before .before .before .before .before .before .before .before .before .before .before .loop .inv .valid) (c .before .before .before .before .before .before .before .before .before .before .before .before .if1 .left))
 
 returns-4 : tie.Need-returns-4 Inv-loop μ-loop
-returns-4 c = read-disorder _ _ _ _ _ _ _ _ (left-of _ _ (c .before .before .before .before .before .before .before .before .before .before .before .before .before .loop-test .taken)) (c .before .before .before .before .before .before .before .before .before .before .before .before .before .before .loop .inv .same) (c .before .before .before .before .before .before .before .before .before .before .before .if1 .left) _ (c .before .before .before .before .before .before .before .before .before .before .read-number .ensures) _ _ (c .before .before .before .before .before .before .before .before .number .given .1) _ (c .before .before .before .before .before .in-range .ensures) (not-false _ (c .before .before .before .before .if2 .left)) _ (c .before .before .before .item-start .ensures) _ (c .before .ascends .ensures) (not-true _ (c .if3 .taken))
+returns-4 c = read-disorder _ _ _ _ _ _ _ _ (left-of _ _ (c .before .before .before .before .before .before .before .before .before .before .before .before .before .before .before .before .loop-test .taken)) (c .before .before .before .before .before .before .before .before .before .before .before .before .before .before .before .before .before .loop .inv .same) (c .before .before .before .before .before .before .before .before .before .before .before .before .before .before .if1 .left) _ (c .before .before .before .before .before .before .before .before .before .before .before .before .before .read-number .ensures) _ _ (c .before .before .before .before .before .before .before .before .before .before .before .number .given .1) _ (c .before .before .before .before .before .before .before .in-range .ensures) (not-false _ (c .before .before .before .before .before .before .if2 .left)) _ (c .before .before .before .before .item-start .ensures) _ (c .before .ascends .ensures) (not-true _ (c .if3 .taken))
 
 next-field-requires : tie.Need-next-field-requires Inv-loop μ-loop
-next-field-requires c κs = placed (c .before .before .before .before .before .before .before .before .before .before .before .before .before .before .loop .inv .valid) (c .before .before .before .before .before .before .before .before .before .before .before .if1 .left)
+next-field-requires c κs = (c .before .before .before .before .before .before .before .before .before .before .before .before .before .before .before .before .before .before .before .before .table .ensures, placed (c .before .before .before .before .before .before .before .before .before .before .before .before .before .before .before .before .before .before .loop .inv .valid) (c .before .before .before .before .before .before .before .before .before .before .before .before .before .before .before .if1 .left))
 
 add-count : tie.Need-add-count Inv-loop μ-loop
 add-count c = search needs
@@ -80,8 +83,8 @@ loop-less c = search needs
 loop-again : tie.Need-loop-again Inv-loop μ-loop
 loop-again c = record {
   few = search needs;
-  valid = later (c .before .before .before .before .before .before .before .before .before .before .before .before .before .before .before .loop .inv .valid) (c .before .before .before .before .before .before .before .before .before .before .before .before .if1 .left) _ _ _ (c .before .before .before .before .before .before .in-range .ensures) (not-false _ (c .before .before .before .before .before .if2 .left)) (c .next-field .ensures);
-  same = read-next _ _ _ _ _ _ _ _ (left-of _ _ (c .before .before .before .before .before .before .before .before .before .before .before .before .before .before .loop-test .taken)) (c .before .before .before .before .before .before .before .before .before .before .before .before .before .before .before .loop .inv .same) (c .before .before .before .before .before .before .before .before .before .before .before .before .if1 .left) _ (c .before .before .before .before .before .before .before .before .before .before .before .read-number .ensures) _ _ (c .before .before .before .before .before .before .before .before .before .number .given .1) _ (c .before .before .before .before .before .before .in-range .ensures) (not-false _ (c .before .before .before .before .before .if2 .left)) _ (c .before .before .before .before .item-start .ensures) _ (c .before .before .ascends .ensures) _ (c .next-field .ensures) (not-false _ (c .before .if3 .left));
+  valid = later (c .before .before .before .before .before .before .before .before .before .before .before .before .before .before .before .before .before .before .before .loop .inv .valid) (c .before .before .before .before .before .before .before .before .before .before .before .before .before .before .before .before .if1 .left) _ _ _ (c .before .before .before .before .before .before .before .before .before .in-range .ensures) (not-false _ (c .before .before .before .before .before .before .before .before .if2 .left)) (c .next-field .ensures);
+  same = read-next _ _ _ _ _ _ _ _ (left-of _ _ (c .before .before .before .before .before .before .before .before .before .before .before .before .before .before .before .before .before .before .loop-test .taken)) (c .before .before .before .before .before .before .before .before .before .before .before .before .before .before .before .before .before .before .before .loop .inv .same) (c .before .before .before .before .before .before .before .before .before .before .before .before .before .before .before .before .if1 .left) _ (c .before .before .before .before .before .before .before .before .before .before .before .before .before .before .before .read-number .ensures) _ _ (c .before .before .before .before .before .before .before .before .before .before .before .before .before .number .given .1) _ (c .before .before .before .before .before .before .before .before .before .in-range .ensures) (not-false _ (c .before .before .before .before .before .before .before .before .if2 .left)) _ (c .before .before .before .before .before .before .item-start .ensures) _ (c .before .before .before .ascends .ensures) _ (c .next-field .ensures) (not-false _ (c .before .before .if3 .left));
 }
 
 returns-5 : tie.Need-returns-5 Inv-loop μ-loop
@@ -93,6 +96,7 @@ read-fields-spec =
     (tie.spec
     Inv-loop
     μ-loop
+    table-requires
     first-field-requires
     loop-holds
     returns

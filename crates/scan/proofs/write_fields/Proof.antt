@@ -25,10 +25,13 @@ record Writing (buf₀ numbers buf : List ℕ) (field : Field) (at count : ℕ) 
   bytes : sets buf at (bytesFrom (numberCount - count) field numbers) ≡ sets buf₀ 0 (fileBytes numbers)
 
 abbrev Inv-loop : tie.InvT-loop
-Inv-loop buf₀ numbers field₀ at₀ count₀ buf field at count = Writing buf₀ numbers buf field at count
+Inv-loop buf₀ numbers table field₀ at₀ count₀ buf field at count = Writing buf₀ numbers buf field at count
 
 abbrev μ-loop : tie.MeasureT-loop
-μ-loop buf₀ numbers field₀ at₀ count₀ buf field at count = numberCount - count
+μ-loop buf₀ numbers table field₀ at₀ count₀ buf field at count = numberCount - count
+
+table-requires : tie.Need-table-requires Inv-loop μ-loop
+table-requires c κs = search needs
 
 first-field-requires : tie.Need-first-field-requires Inv-loop μ-loop
 first-field-requires c κs = search needs
@@ -38,16 +41,16 @@ loop-holds c = record {
   start = 0;
   few = search needs;
   valid = rw (c .first-field .ensures) edition;
-  checked = ap (λ (x : Field). checkFrom numberCount 0 0 x (c .before .before .args .numbers .now)) (c .first-field .ensures);
+  checked = ap (λ (x : Field). checkFrom numberCount 0 0 x (c .before .before .before .args .numbers .now)) (c .first-field .ensures);
   long = refl;
-  bytes = ap (λ (x : Field). sets (c .before .before .args .buf .now) 0 (bytesFrom numberCount x (c .before .before .args .numbers .now))) (c .first-field .ensures);
+  bytes = ap (λ (x : Field). sets (c .before .before .before .args .buf .now) 0 (bytesFrom numberCount x (c .before .before .before .args .numbers .now))) (c .first-field .ensures);
 }
 
 same-length : tie.Need-same-length Inv-loop μ-loop
 same-length c = c .before .before .before .loop .inv .long
 
 returns : tie.Need-returns Inv-loop μ-loop
-returns c = write-end _ _ _ _ _ _ _ (c .before .before .before .before .before .before .pre .need) (left-of _ _ (c .before .before .loop-test .taken)) (c .before .before .before .loop .inv .checked) (c .before .before .before .before .before .before .pre .checked) (c .if1 .taken) _ _ (c .before .before .before .loop .inv .bytes)
+returns c = write-end _ _ _ _ _ _ _ (c .before .before .before .before .before .before .before .pre .need) (left-of _ _ (c .before .before .loop-test .taken)) (c .before .before .before .loop .inv .checked) (c .before .before .before .before .before .before .before .pre .checked) (c .if1 .taken) _ _ (c .before .before .before .loop .inv .bytes)
 
 mul-value : tie.Need-mul-value Inv-loop μ-loop
 mul-value c = omega (arith, placed (c .before .before .before .loop .inv .valid) (c .if1 .left) .place)
@@ -56,10 +59,10 @@ element-copy-out-value : tie.Need-element-copy-out-value Inv-loop μ-loop
 element-copy-out-value c = placed (c .before .before .before .loop .inv .valid) (c .if1 .left) .place
 
 write-number-requires : tie.Need-write-number-requires Inv-loop μ-loop
-write-number-requires c κs = omega (arith, write-room _ _ _ _ _ _ _ (c .before .before .before .before .before .before .before .before .pre .need) (left-of _ _ (c .before .before .before .before .loop-test .taken)) (c .before .before .before .before .before .loop .inv .checked) (c .before .before .before .before .before .before .before .before .pre .checked) (c .before .before .if1 .left), c .before .before .before .before .before .before .before .before .pre .room, c .before .before .before .before .before .loop .inv .long)
+write-number-requires c κs = omega (arith, write-room _ _ _ _ _ _ _ (c .before .before .before .before .before .before .before .before .before .pre .need) (left-of _ _ (c .before .before .before .before .loop-test .taken)) (c .before .before .before .before .before .loop .inv .checked) (c .before .before .before .before .before .before .before .before .before .pre .checked) (c .before .before .if1 .left), c .before .before .before .before .before .before .before .before .before .pre .room, c .before .before .before .before .before .loop .inv .long)
 
 next-field-requires : tie.Need-next-field-requires Inv-loop μ-loop
-next-field-requires c κs = placed (c .before .before .before .before .before .before .before .before .loop .inv .valid) (c .before .before .before .before .before .if1 .left)
+next-field-requires c κs = (c .before .before .before .before .before .before .before .before .before .before .before .table .ensures, placed (c .before .before .before .before .before .before .before .before .before .loop .inv .valid) (c .before .before .before .before .before .before .if1 .left))
 
 add-count : tie.Need-add-count Inv-loop μ-loop
 add-count c = search needs
@@ -69,12 +72,12 @@ loop-less c = search needs
 
 loop-again : tie.Need-loop-again Inv-loop μ-loop
 loop-again c = record {
-  start = itemStart (c .before .before .before .before .before .before .before .before .before .loop .field) (c .before .before .before .before .before .before .before .before .before .loop .at) (c .before .before .before .before .before .before .before .before .before .loop .inv .start);
+  start = itemStart (c .before .before .before .before .before .before .before .before .before .before .loop .field) (c .before .before .before .before .before .before .before .before .before .before .loop .at) (c .before .before .before .before .before .before .before .before .before .before .loop .inv .start);
   few = search needs;
-  valid = write-valid _ _ _ _ _ _ _ (c .before .before .before .before .before .before .before .before .before .before .before .before .pre .need) (left-of _ _ (c .before .before .before .before .before .before .before .before .loop-test .taken)) (c .before .before .before .before .before .before .before .before .before .loop .inv .checked) (c .before .before .before .before .before .before .before .before .before .before .before .before .pre .checked) (c .before .before .before .before .before .before .if1 .left) _ (c .next-field .ensures) (c .before .before .before .before .before .before .before .before .before .loop .inv .valid);
-  checked = write-checked _ _ _ _ _ _ _ (c .before .before .before .before .before .before .before .before .before .before .before .before .pre .need) (left-of _ _ (c .before .before .before .before .before .before .before .before .loop-test .taken)) (c .before .before .before .before .before .before .before .before .before .loop .inv .checked) (c .before .before .before .before .before .before .before .before .before .before .before .before .pre .checked) (c .before .before .before .before .before .before .if1 .left) _ (c .next-field .ensures) _ (c .before .before .before .write-number .ensures .0);
-  long = ap length (c .before .before .before .write-number .ensures .1) ∙ simp length-sets (c .before .before .before .before .before .before .before .before .before .loop .inv .long);
-  bytes = write-bytes _ _ _ _ _ _ _ (c .before .before .before .before .before .before .before .before .before .before .before .before .pre .need) (left-of _ _ (c .before .before .before .before .before .before .before .before .loop-test .taken)) (c .before .before .before .before .before .before .before .before .before .loop .inv .checked) (c .before .before .before .before .before .before .before .before .before .before .before .before .pre .checked) (c .before .before .before .before .before .before .if1 .left) _ (c .next-field .ensures) _ (c .before .before .before .write-number .ensures .0) _ _ _ (c .before .before .before .write-number .ensures .1) (c .before .before .before .before .before .before .before .before .before .loop .inv .bytes);
+  valid = write-valid _ _ _ _ _ _ _ (c .before .before .before .before .before .before .before .before .before .before .before .before .before .before .pre .need) (left-of _ _ (c .before .before .before .before .before .before .before .before .before .loop-test .taken)) (c .before .before .before .before .before .before .before .before .before .before .loop .inv .checked) (c .before .before .before .before .before .before .before .before .before .before .before .before .before .before .pre .checked) (c .before .before .before .before .before .before .before .if1 .left) _ (c .next-field .ensures) (c .before .before .before .before .before .before .before .before .before .before .loop .inv .valid);
+  checked = write-checked _ _ _ _ _ _ _ (c .before .before .before .before .before .before .before .before .before .before .before .before .before .before .pre .need) (left-of _ _ (c .before .before .before .before .before .before .before .before .before .loop-test .taken)) (c .before .before .before .before .before .before .before .before .before .before .loop .inv .checked) (c .before .before .before .before .before .before .before .before .before .before .before .before .before .before .pre .checked) (c .before .before .before .before .before .before .before .if1 .left) _ (c .next-field .ensures) _ (c .before .before .before .before .write-number .ensures .0);
+  long = ap length (c .before .before .before .before .write-number .ensures .1) ∙ simp length-sets (c .before .before .before .before .before .before .before .before .before .before .loop .inv .long);
+  bytes = write-bytes _ _ _ _ _ _ _ (c .before .before .before .before .before .before .before .before .before .before .before .before .before .before .pre .need) (left-of _ _ (c .before .before .before .before .before .before .before .before .before .loop-test .taken)) (c .before .before .before .before .before .before .before .before .before .before .loop .inv .checked) (c .before .before .before .before .before .before .before .before .before .before .before .before .before .before .pre .checked) (c .before .before .before .before .before .before .before .if1 .left) _ (c .next-field .ensures) _ (c .before .before .before .before .write-number .ensures .0) _ _ _ (c .before .before .before .before .write-number .ensures .1) (c .before .before .before .before .before .before .before .before .before .before .loop .inv .bytes);
 }
 
 same-length-2 : tie.Need-same-length-2 Inv-loop μ-loop
@@ -89,6 +92,7 @@ write-fields-spec =
     (tie.spec
     Inv-loop
     μ-loop
+    table-requires
     first-field-requires
     loop-holds
     same-length
