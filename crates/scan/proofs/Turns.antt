@@ -1,5 +1,5 @@
 -- One turn of the loops that go through the fields, case by case, over the definitions that they equal.
-use Prim.Native.Nat.{ℕ, zero, suc, _+_, _≤_, _<_}
+use Prim.Native.Nat.{ℕ, zero, suc, _+_, _-_, _≤_, _<_}
 use mathlib.Core.Path.{_≡_, refl, sym, ap, _∙_}
 use mathlib.Core.List.{List, [], _∷_, _++_}
 use mathlib.Core.Bool.{Bool, true, false, cond}
@@ -18,13 +18,13 @@ use Rattle.model.specs.declared.Refusal.the-variants as refusal
 use Rattle.model.specs.declared.Number as spelt
 use Rattle.model.specs.declared.Number.the-variants as number
 use Rattle.model.specs.Spelling.{readNumber, numberSize, numberBytes}
-use Rattle.model.specs.File.{nextField, inRange, ascends, itemStart, Scan, scanned, onNumber, readFrom, checkFrom, bytesFrom}
-use Rattle.model.proofs.Cases.{by-order}
+use Rattle.model.specs.File.{numberCount, nextField, inRange, ascends, itemStart, Scan, scanned, onNumber, readFrom, checkFrom, bytesFrom}
+use Rattle.model.proofs.Cases.{by-order, left-of}
 use Rattle.model.proofs.Lists.{sets-append}
 use Rattle.spelling.proofs.Laws.{size-five, bytes-length}
 use Rattle.fields.specs.Valid.{Valid}
 use Rattle.fields.proofs.OneField.{Passed, checked, bytes-over, bytes-on}
-use Rattle.fields.proofs.Steps.{next-later, in-row}
+use Rattle.fields.proofs.Steps.{Later, placed, next-later, in-row}
 use Rattle.scan.specs.Answers.{misread}
 
 -- What the other arm of a `let` on a number knows: by its tag it is no value.
@@ -35,10 +35,6 @@ no-value number.Misspelt told v next q = let z : _≡_ {A = ℕ} 0 1 = cc in ome
 
 -- Reading, with n more fields to come.
 module _ (k n : ℕ) (s : List ℕ) (at start : ℕ) (c : Field) (l : List ℕ) (r : Scan) (left : k ≡ suc n) (inv : readFrom k s at start c l ≡ r) where
-  pub read-end : 15 ≤ c .row → scanned (Done at) l ≡ r
-  unfolding readFrom
-  read-end h = simp (le-leb 15 (c .row) h) at (rw left at inv)
-
   module _ (h : c .row < 15) (m : spelt.Number) (is : m ≡ readNumber s at) where
     abbrev goes : spelt.Number → Scan
     goes x =
@@ -79,16 +75,13 @@ module _ (k n : ℕ) (s : List ℕ) (at start : ℕ) (c : Field) (l : List ℕ) 
         at-number number.Ended g = refl
         at-number number.Misspelt g = refl
 
-pub read-done : (k : ℕ) (s : List ℕ) (at start : ℕ) (c : Field) (l : List ℕ) (r : Scan) → k ≡ 0 → readFrom k s at start c l ≡ r → scanned (Done at) l ≡ r
+pub read-done : (k : ℕ) (s : List ℕ) (at start : ℕ) (c : Field) (l : List ℕ) (r : Scan) → readFrom k s at start c l ≡ r → 15 ≤ c .row → scanned (Done at) l ≡ r
 unfolding readFrom
-read-done k s at start c l r e inv = rw e at inv
+read-done zero s at start c l r inv h = inv
+read-done (suc n) s at start c l r inv h = simp (le-leb 15 (c .row) h) at inv
 
 -- Judging, with n more fields to come; v stands at the field.
 module _ (k n at start : ℕ) (c : Field) (l : List ℕ) (r : Fields) (left : k ≡ suc n) (inv : checkFrom k at start c l ≡ r) where
-  pub check-end : 15 ≤ c .row → Done at ≡ r
-  unfolding checkFrom
-  check-end h = simp (le-leb 15 (c .row) h) at (rw left at inv)
-
   module _ (h : c .row < 15) where
     abbrev v : ℕ
     v = getD l (c .place) 0
@@ -112,27 +105,42 @@ module _ (k n at start : ℕ) (c : Field) (l : List ℕ) (r : Fields) (left : k 
       pub check-next : (d : Field) → d ≡ nextField c v → (size : ℕ) → size ≡ numberSize v → a ≡ true → checkFrom n (at + size) start′ d l ≡ r
       check-next d ed size ez g = rw (ed, ez, es) (simp (sym ea ∙ g) at in-order)
 
-pub check-done : (k at start : ℕ) (c : Field) (l : List ℕ) (r : Fields) → k ≡ 0 → checkFrom k at start c l ≡ r → Done at ≡ r
+pub check-done : (k at start : ℕ) (c : Field) (l : List ℕ) (r : Fields) → checkFrom k at start c l ≡ r → 15 ≤ c .row → Done at ≡ r
 unfolding checkFrom
-check-done k at start c l r e inv = rw e at inv
+check-done zero at start c l r inv h = inv
+check-done (suc n) at start c l r inv h = simp (le-leb 15 (c .row) h) at inv
 
 -- The position only grows.
 pub check-grows : (n at start : ℕ) (c : Field) (l : List ℕ) (end : ℕ) → checkFrom n at start c l ≡ Done end → at ≤ end
-check-grows zero at start c l end e = let q : Done at ≡ Done end = check-done zero at start c l (Done end) refl e in let p : at ≡ end = cc in omega arith
+unfolding checkFrom
+check-grows zero at start c l end e = let q : Done at ≡ Done end = e in let p : at ≡ end = cc in omega arith
 check-grows (suc n) at start c l end e =
     by-order (c .row) 15
     (λ h. let next = check-grows n (at + numberSize (getD l (c .place) 0)) (itemStart c at start) (nextField c (getD l (c .place) 0)) l end (checked l n at start end c h e .1) in omega arith)
-    (λ h. let q : Done at ≡ Done end = check-end (suc n) n at start c l (Done end) refl e h in let p : at ≡ end = cc in omega arith)
+    (λ h. let q : Done at ≡ Done end = check-done (suc n) at start c l (Done end) e h in let p : at ≡ end = cc in omega arith)
 
--- The field after a number in range is valid.
-pub later : {c : Field} → Valid c → c .row < 15 → (l : List ℕ) (v : ℕ) (t : Bool) → t ≡ inRange l c v → t ≡ true → {d : Field} → d ≡ nextField c v → Valid d
-later {c} valid h l v t e f q = rw q (next-later valid v h (in-row l c v (sym e ∙ f) .1) .valid)
+-- Going on: at most `count` numbers stand before a valid field.
+pub record Reached (c : Field) (count : ℕ) : Type 0 where
+  pub valid : Valid c
+  pub behind : count ≤ c .place
+
+module _ {c : Field} {count : ℕ} (here : Reached c count) (h : c .row < 15) where
+  pub to-come : numberCount - count ≡ suc (numberCount - (count + 1))
+  to-come = left-of count numberCount (omega (arith, placed (here .valid) h .place))
+
+  module _ {d : Field} (next : Later c d) where
+    pub reached : Reached d (count + 1)
+    reached = record { valid = next .valid; behind = omega (arith, next .higher) }
+
+    pub nearer : numberCount - d .place < numberCount - c .place
+    nearer = omega (arith, placed (here .valid) h .place, next .higher)
+
+-- The field after a number in range comes later.
+pub later : {c : Field} → Valid c → c .row < 15 → (l : List ℕ) (v : ℕ) (t : Bool) → t ≡ inRange l c v → t ≡ true → {d : Field} → d ≡ nextField c v → Later c d
+later {c} valid h l v t e f q = rw q (next-later valid v h (in-row l c v (sym e ∙ f) .1))
 
 -- Writing, with n more fields to come: numbers that were judged good have room, a next field, and the bytes that are left.
 module _ (k n at start : ℕ) (c : Field) (l : List ℕ) (r : Fields) (need : ℕ) (left : k ≡ suc n) (inv : checkFrom k at start c l ≡ r) (good : r ≡ Done need) where
-  pub write-end : 15 ≤ c .row → (buf whole : List ℕ) → sets buf at (bytesFrom k c l) ≡ whole → (Done at ≡ r) × (buf ≡ whole)
-  write-end h buf whole e = (check-end k n at start c l r left inv h, rw (left, bytes-over n c l (le-leb 15 (c .row) h)) at e)
-
   module _ (h : c .row < 15) where
     judged-good : Passed l c × (checkFrom n (at + numberSize (getD l (c .place) 0)) (itemStart c at start) (nextField c (getD l (c .place) 0)) l ≡ Done need)
     judged-good = checked l n at start need c h (rw left at (inv ∙ good))
@@ -141,8 +149,8 @@ module _ (k n at start : ℕ) (c : Field) (l : List ℕ) (r : Fields) (need : �
     write-room = check-grows n _ _ _ l need (judged-good .1)
 
     module _ (d : Field) (is : d ≡ nextField c (getD l (c .place) 0)) where
-      pub write-valid : Valid c → Valid d
-      write-valid valid = later valid h l _ true (sym (judged-good .0 .in-range)) refl is
+      pub write-later : Valid c → Later c d
+      write-later valid = later valid h l _ true (sym (judged-good .0 .in-range)) refl is
 
       module _ (at′ : ℕ) (moved : at′ ≡ at + numberSize (getD l (c .place) 0)) where
         pub write-checked : checkFrom n at′ (itemStart c at start) d l ≡ r
@@ -157,10 +165,11 @@ module _ (k n at start : ℕ) (c : Field) (l : List ℕ) (r : Fields) (need : �
             rw (e, is, moved)
             (ap (λ (m : ℕ). sets (sets buf at bytes) (at + m) rest) (sym (bytes-length (getD l (c .place) 0))) ∙ sym (sets-append bytes rest buf at) ∙ turn)
 
-pub write-done : (k at start : ℕ) (c : Field) (l : List ℕ) (r : Fields) → k ≡ 0 → checkFrom k at start c l ≡ r →
+pub write-done : (k at start : ℕ) (c : Field) (l : List ℕ) (r : Fields) → checkFrom k at start c l ≡ r → 15 ≤ c .row →
     (buf whole : List ℕ) → sets buf at (bytesFrom k c l) ≡ whole → (Done at ≡ r) × (buf ≡ whole)
 unfolding bytesFrom
-write-done k at start c l r e inv buf whole w = (check-done k at start c l r e inv, rw e at w)
+write-done zero at start c l r inv h buf whole w = (check-done zero at start c l r inv h, w)
+write-done (suc n) at start c l r inv h buf whole w = (check-done (suc n) at start c l r inv h, rw (bytes-over n c l (le-leb 15 (c .row) h)) at w)
 
 pub size-near : (n v : ℕ) → n ≡ numberSize v → n ≤ 5
 size-near n v e = omega (arith, size-five v)

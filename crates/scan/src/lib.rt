@@ -39,11 +39,7 @@ pub fn read_fields(bytes: &[u8], numbers: &mut [u64; 1446]) -> Fields
     let mut field = first_field();
     let mut at: usize = 0;
     let mut start: usize = 0;
-    let mut count: usize = 0;
-    while count < 1446 {
-        if 15 <= field.row {
-            return Fields::Done(at);
-        }
+    while field.row < 15 {
         let number = spelling::read_number(bytes, at);
         let Number::Value(value, next) = number else {
             return misread_at(number, bytes.len(), at);
@@ -59,7 +55,6 @@ pub fn read_fields(bytes: &[u8], numbers: &mut [u64; 1446]) -> Fields
         }
         field = fields::next_field(&table, field, value);
         at = next;
-        count += 1;
     }
     Fields::Done(at)
 }
@@ -72,11 +67,7 @@ pub fn check_fields(numbers: &[u64; 1446]) -> Fields
     let mut field = first_field();
     let mut at: usize = 0;
     let mut start: usize = 0;
-    let mut count: usize = 0;
-    while count < 1446 {
-        if 15 <= field.row {
-            return Fields::Done(at);
-        }
+    while field.row < 15 {
         let place = field.place;
         let value = numbers[place];
         if !fields::in_range(&table, numbers, field, value) {
@@ -88,7 +79,6 @@ pub fn check_fields(numbers: &[u64; 1446]) -> Fields
         }
         field = fields::next_field(&table, field, value);
         at += spelling::number_size(value);
-        count += 1;
     }
     Fields::Done(at)
 }
@@ -101,16 +91,11 @@ pub fn write_fields(buf: &mut [u8], numbers: &[u64; 1446]) -> usize
     let table = fields::table();
     let mut field = first_field();
     let mut at: usize = 0;
-    let mut count: usize = 0;
-    while count < 1446 {
-        if 15 <= field.row {
-            return at;
-        }
+    while field.row < 15 {
         let place = field.place;
         let value = numbers[place];
         at = spelling::write_number(buf, at, value);
         field = fields::next_field(&table, field, value);
-        count += 1;
     }
     at
 }

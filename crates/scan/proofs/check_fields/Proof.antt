@@ -1,6 +1,6 @@
 -- `check_fields` judges as `checkFrom` does. The invariant: what is left to judge from the present field is what was to be judged from the first,
 -- the field is valid, and no more than five bytes a number are counted.
-use Prim.Native.Nat.{ℕ, _-_, _*_, _≤_}
+use Prim.Native.Nat.{ℕ, _+_, _-_, _*_, _≤_}
 use mathlib.Core.Path.{_≡_, ap}
 use mathlib.Core.List.{List}
 use native.Mathlib.Omega.{arith}
@@ -8,24 +8,23 @@ use borrow.Author.Needs.{needs}
 use borrow.Author.Tests.{not-true, not-false}
 use Rattle.model.specs.declared.Field.{Field}
 use Rattle.model.specs.File.{numberCount, firstField, checkFrom}
-use Rattle.model.proofs.Cases.{left-of}
-use Rattle.fields.specs.Valid.{Valid, edition}
+use Rattle.fields.specs.Valid.{edition}
 use Rattle.fields.proofs.Steps.{placed}
-use Rattle.scan.proofs.Turns.{check-end, check-out, check-disorder, check-next, check-done, later, size-near}
+use Rattle.scan.proofs.Turns.{check-out, check-disorder, check-next, check-done, Reached, to-come, reached, nearer, later, size-near}
 use Rattle.scan.proofs.check_fields.Statement.{statement}
 use Rattle.scan.proofs.check_fields.Tie as tie
 
-record Judging (numbers : List ℕ) (field : Field) (at start count : ℕ) : Type 0 where
-  few : count ≤ numberCount
+record Judging (numbers : List ℕ) (field : Field) (at start : ℕ) : Type 0 where
+  count : ℕ
   near : at ≤ 5 * count
-  valid : Valid field
+  reached : Reached field count
   same : checkFrom (numberCount - count) at start field numbers ≡ checkFrom numberCount 0 0 firstField numbers
 
 abbrev Inv-loop : tie.InvT-loop
-Inv-loop numbers table field₀ at₀ start₀ count₀ field at start count = Judging numbers field at start count
+Inv-loop numbers table field₀ at₀ start₀ field at start = Judging numbers field at start
 
 abbrev μ-loop : tie.MeasureT-loop
-μ-loop numbers table field₀ at₀ start₀ count₀ field at start count = numberCount - count
+μ-loop numbers table field₀ at₀ start₀ field at start = numberCount - field .place
 
 table-requires : tie.Need-table-requires Inv-loop μ-loop
 table-requires c κs = search needs
@@ -34,57 +33,51 @@ first-field-requires : tie.Need-first-field-requires Inv-loop μ-loop
 first-field-requires c κs = search needs
 
 loop-holds : tie.Need-loop-holds Inv-loop μ-loop
-loop-holds c = record { few = search needs; near = omega arith; valid = rw (c .first-field .ensures) edition; same = ap (λ (x : Field). checkFrom numberCount 0 0 x (c .before .before .args .numbers .now)) (c .first-field .ensures) }
-
-returns : tie.Need-returns Inv-loop μ-loop
-returns c = check-end _ _ _ _ _ _ _ (left-of _ _ (c .before .before .loop-test .taken)) (c .before .before .before .loop .inv .same) (c .if1 .taken)
+loop-holds c = record { count = 0; near = omega arith; reached = record { valid = rw (c .first-field .ensures) edition; behind = omega arith }; same = ap (λ (x : Field). checkFrom numberCount 0 0 x (c .before .before .args .numbers .now)) (c .first-field .ensures) }
 
 mul-value : tie.Need-mul-value Inv-loop μ-loop
-mul-value c = omega (arith, placed (c .before .before .before .loop .inv .valid) (c .if1 .left) .place)
+mul-value c = omega (arith, placed (c .before .before .loop .inv .reached .valid) (c .if1 .taken) .place)
 
 element-copy-out-value : tie.Need-element-copy-out-value Inv-loop μ-loop
-element-copy-out-value c = placed (c .before .before .before .loop .inv .valid) (c .if1 .left) .place
+element-copy-out-value c = placed (c .before .before .loop .inv .reached .valid) (c .if1 .taken) .place
 
 in-range-requires : tie.Need-in-range-requires Inv-loop μ-loop
-in-range-requires c κs = (c .before .before .before .before .before .before .before .table .ensures, placed (c .before .before .before .before .before .loop .inv .valid) (c .before .before .if1 .left))
+in-range-requires c κs = (c .before .before .before .before .before .before .table .ensures, placed (c .before .before .before .before .loop .inv .reached .valid) (c .before .before .if1 .taken))
 
-returns-2 : tie.Need-returns-2 Inv-loop μ-loop
-returns-2 c = check-out _ _ _ _ _ _ _ (left-of _ _ (c .before .before .before .before .before .before .loop-test .taken)) (c .before .before .before .before .before .before .before .loop .inv .same) (c .before .before .before .before .if1 .left) _ (c .before .in-range .ensures) (not-true _ (c .if2 .taken))
+returns : tie.Need-returns Inv-loop μ-loop
+returns c = check-out _ _ _ _ _ _ _ (to-come (c .before .before .before .before .before .before .loop .inv .reached) (c .before .before .before .before .if1 .taken)) (c .before .before .before .before .before .before .loop .inv .same) (c .before .before .before .before .if1 .taken) _ (c .before .in-range .ensures) (not-true _ (c .if2 .taken))
 
 item-start-requires : tie.Need-item-start-requires Inv-loop μ-loop
-item-start-requires c κs = (c .before .before .before .before .before .before .before .before .before .before .table .ensures, placed (c .before .before .before .before .before .before .before .before .loop .inv .valid) (c .before .before .before .before .before .if1 .left) .row)
+item-start-requires c κs = (c .before .before .before .before .before .before .before .before .before .table .ensures, placed (c .before .before .before .before .before .before .before .loop .inv .reached .valid) (c .before .before .before .before .before .if1 .taken) .row)
 
 ascends-requires : tie.Need-ascends-requires Inv-loop μ-loop
-ascends-requires c κs = (c .before .before .before .before .before .before .before .before .before .before .before .before .table .ensures, placed (c .before .before .before .before .before .before .before .before .before .before .loop .inv .valid) (c .before .before .before .before .before .before .before .if1 .left))
+ascends-requires c κs = (c .before .before .before .before .before .before .before .before .before .before .before .table .ensures, placed (c .before .before .before .before .before .before .before .before .before .loop .inv .reached .valid) (c .before .before .before .before .before .before .before .if1 .taken))
 
-returns-3 : tie.Need-returns-3 Inv-loop μ-loop
-returns-3 c = check-disorder _ _ _ _ _ _ _ (left-of _ _ (c .before .before .before .before .before .before .before .before .before .before .before .loop-test .taken)) (c .before .before .before .before .before .before .before .before .before .before .before .before .loop .inv .same) (c .before .before .before .before .before .before .before .before .before .if1 .left) _ (c .before .before .before .before .before .before .in-range .ensures) (not-false _ (c .before .before .before .before .before .if2 .left)) _ (c .before .before .before .item-start .ensures) _ (c .before .ascends .ensures) (not-true _ (c .if3 .taken))
+returns-2 : tie.Need-returns-2 Inv-loop μ-loop
+returns-2 c = check-disorder _ _ _ _ _ _ _ (to-come (c .before .before .before .before .before .before .before .before .before .before .before .loop .inv .reached) (c .before .before .before .before .before .before .before .before .before .if1 .taken)) (c .before .before .before .before .before .before .before .before .before .before .before .loop .inv .same) (c .before .before .before .before .before .before .before .before .before .if1 .taken) _ (c .before .before .before .before .before .before .in-range .ensures) (not-false _ (c .before .before .before .before .before .if2 .left)) _ (c .before .before .before .item-start .ensures) _ (c .before .ascends .ensures) (not-true _ (c .if3 .taken))
 
 next-field-requires : tie.Need-next-field-requires Inv-loop μ-loop
-next-field-requires c κs = (c .before .before .before .before .before .before .before .before .before .before .before .before .before .before .before .table .ensures, placed (c .before .before .before .before .before .before .before .before .before .before .before .before .before .loop .inv .valid) (c .before .before .before .before .before .before .before .before .before .before .if1 .left))
+next-field-requires c κs = (c .before .before .before .before .before .before .before .before .before .before .before .before .before .before .table .ensures, placed (c .before .before .before .before .before .before .before .before .before .before .before .before .loop .inv .reached .valid) (c .before .before .before .before .before .before .before .before .before .before .if1 .taken))
 
 number-size-requires : tie.Need-number-size-requires Inv-loop μ-loop
 number-size-requires c κs = search needs
 
 add-at : tie.Need-add-at Inv-loop μ-loop
-add-at c = omega (arith, size-near _ _ (c .number-size .ensures))
-
-add-count : tie.Need-add-count Inv-loop μ-loop
-add-count c = search needs
+add-at c = omega (arith, c .before .before .before .before .before .before .before .before .before .before .before .before .before .before .loop .inv .near, c .before .before .before .before .before .before .before .before .before .before .before .before .before .before .loop .inv .reached .behind, placed (c .before .before .before .before .before .before .before .before .before .before .before .before .before .before .loop .inv .reached .valid) (c .before .before .before .before .before .before .before .before .before .before .before .before .if1 .taken) .place, size-near _ _ (c .number-size .ensures))
 
 loop-less : tie.Need-loop-less Inv-loop μ-loop
-loop-less c = search needs
+loop-less c = nearer (c .before .before .before .before .before .before .before .before .before .before .before .before .before .before .loop .inv .reached) (c .before .before .before .before .before .before .before .before .before .before .before .before .if1 .taken) (later (c .before .before .before .before .before .before .before .before .before .before .before .before .before .before .loop .inv .reached .valid) (c .before .before .before .before .before .before .before .before .before .before .before .before .if1 .taken) _ _ _ (c .before .before .before .before .before .before .before .before .before .in-range .ensures) (not-false _ (c .before .before .before .before .before .before .before .before .if2 .left)) (c .before .next-field .ensures))
 
 loop-again : tie.Need-loop-again Inv-loop μ-loop
 loop-again c = record {
-  few = search needs;
-  near = omega (arith, size-near _ _ (c .number-size .ensures));
-  valid = later (c .before .before .before .before .before .before .before .before .before .before .before .before .before .before .before .loop .inv .valid) (c .before .before .before .before .before .before .before .before .before .before .before .before .if1 .left) _ _ _ (c .before .before .before .before .before .before .before .before .before .in-range .ensures) (not-false _ (c .before .before .before .before .before .before .before .before .if2 .left)) (c .before .next-field .ensures);
-  same = check-next _ _ _ _ _ _ _ (left-of _ _ (c .before .before .before .before .before .before .before .before .before .before .before .before .before .before .loop-test .taken)) (c .before .before .before .before .before .before .before .before .before .before .before .before .before .before .before .loop .inv .same) (c .before .before .before .before .before .before .before .before .before .before .before .before .if1 .left) _ (c .before .before .before .before .before .before .before .before .before .in-range .ensures) (not-false _ (c .before .before .before .before .before .before .before .before .if2 .left)) _ (c .before .before .before .before .before .before .item-start .ensures) _ (c .before .before .before .before .ascends .ensures) _ (c .before .next-field .ensures) _ (c .number-size .ensures) (not-false _ (c .before .before .before .if3 .left));
+  count = c .before .before .before .before .before .before .before .before .before .before .before .before .before .before .loop .inv .count + 1;
+  near = omega (arith, c .before .before .before .before .before .before .before .before .before .before .before .before .before .before .loop .inv .near, size-near _ _ (c .number-size .ensures));
+  reached = reached (c .before .before .before .before .before .before .before .before .before .before .before .before .before .before .loop .inv .reached) (c .before .before .before .before .before .before .before .before .before .before .before .before .if1 .taken) (later (c .before .before .before .before .before .before .before .before .before .before .before .before .before .before .loop .inv .reached .valid) (c .before .before .before .before .before .before .before .before .before .before .before .before .if1 .taken) _ _ _ (c .before .before .before .before .before .before .before .before .before .in-range .ensures) (not-false _ (c .before .before .before .before .before .before .before .before .if2 .left)) (c .before .next-field .ensures));
+  same = check-next _ _ _ _ _ _ _ (to-come (c .before .before .before .before .before .before .before .before .before .before .before .before .before .before .loop .inv .reached) (c .before .before .before .before .before .before .before .before .before .before .before .before .if1 .taken)) (c .before .before .before .before .before .before .before .before .before .before .before .before .before .before .loop .inv .same) (c .before .before .before .before .before .before .before .before .before .before .before .before .if1 .taken) _ (c .before .before .before .before .before .before .before .before .before .in-range .ensures) (not-false _ (c .before .before .before .before .before .before .before .before .if2 .left)) _ (c .before .before .before .before .before .before .item-start .ensures) _ (c .before .before .before .before .ascends .ensures) _ (c .before .next-field .ensures) _ (c .number-size .ensures) (not-false _ (c .before .before .before .if3 .left));
 }
 
-returns-4 : tie.Need-returns-4 Inv-loop μ-loop
-returns-4 c = check-done _ _ _ _ _ _ (omega arith) (c .before .loop .inv .same)
+returns-3 : tie.Need-returns-3 Inv-loop μ-loop
+returns-3 c = check-done _ _ _ _ _ _ (c .before .before .loop .inv .same) (c .if1 .left)
 
 pub check-fields-spec : {M : Type 1} → statement M
 check-fields-spec =
@@ -95,18 +88,16 @@ check-fields-spec =
     table-requires
     first-field-requires
     loop-holds
-    returns
     mul-value
     element-copy-out-value
     in-range-requires
-    returns-2
+    returns
     item-start-requires
     ascends-requires
-    returns-3
+    returns-2
     next-field-requires
     number-size-requires
     add-at
-    add-count
     loop-less
     loop-again
-    returns-4)
+    returns-3)

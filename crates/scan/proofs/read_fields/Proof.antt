@@ -1,5 +1,5 @@
 -- `read_fields` reads as `readFrom` does. The invariant: what is left to read from the present field is what was to be read from the first, and the field is valid.
-use Prim.Native.Nat.{ℕ, _-_, _≤_}
+use Prim.Native.Nat.{ℕ, _+_, _-_}
 use mathlib.Core.List.{List}
 use mathlib.Core.Path.{_≡_, ap}
 use native.Mathlib.Omega.{arith}
@@ -7,24 +7,23 @@ use borrow.Author.Needs.{needs}
 use borrow.Author.Tests.{not-true, not-false}
 use Rattle.model.specs.declared.Field.{Field}
 use Rattle.model.specs.File.{numberCount, firstField, readFrom}
-use Rattle.model.proofs.Cases.{left-of}
-use Rattle.fields.specs.Valid.{Valid, edition}
+use Rattle.fields.specs.Valid.{edition}
 use Rattle.fields.proofs.Steps.{placed}
-use Rattle.scan.proofs.Turns.{no-value, read-end, read-refused, read-out, read-disorder, read-next, read-done, later}
+use Rattle.scan.proofs.Turns.{no-value, read-refused, read-out, read-disorder, read-next, read-done, Reached, to-come, reached, nearer, later}
 use Rattle.scan.proofs.read_fields.Statement.{statement}
 use Rattle.scan.proofs.read_fields.Tie as tie
 
-record Reading (bytes numbers₀ numbers : List ℕ) (field : Field) (at start count : ℕ) : Type 0 where
-  few : count ≤ numberCount
-  valid : Valid field
+record Reading (bytes numbers₀ numbers : List ℕ) (field : Field) (at start : ℕ) : Type 0 where
+  count : ℕ
+  reached : Reached field count
   same : readFrom (numberCount - count) bytes at start field numbers ≡ readFrom numberCount bytes 0 0 firstField numbers₀
 
 abbrev Inv-loop : tie.InvT-loop
-Inv-loop bytes numbers₀ table field₀ at₀ start₀ count₀ numbers field at start count =
-    Reading bytes numbers₀ numbers field at start count
+Inv-loop bytes numbers₀ table field₀ at₀ start₀ numbers field at start =
+    Reading bytes numbers₀ numbers field at start
 
 abbrev μ-loop : tie.MeasureT-loop
-μ-loop bytes numbers₀ table field₀ at₀ start₀ count₀ numbers field at start count = numberCount - count
+μ-loop bytes numbers₀ table field₀ at₀ start₀ numbers field at start = numberCount - field .place
 
 table-requires : tie.Need-table-requires Inv-loop μ-loop
 table-requires c κs = search needs
@@ -33,10 +32,7 @@ first-field-requires : tie.Need-first-field-requires Inv-loop μ-loop
 first-field-requires c κs = search needs
 
 loop-holds : tie.Need-loop-holds Inv-loop μ-loop
-loop-holds c = record { few = search needs; valid = rw (c .first-field .ensures) edition; same = ap (λ (x : Field). readFrom numberCount (c .before .before .before .args .bytes .now) 0 0 x (c .before .before .before .args .numbers .now)) (c .first-field .ensures) }
-
-returns : tie.Need-returns Inv-loop μ-loop
-returns c = read-end _ _ _ _ _ _ _ _ (left-of _ _ (c .before .before .loop-test .taken)) (c .before .before .before .loop .inv .same) (c .if1 .taken)
+loop-holds c = record { count = 0; reached = record { valid = rw (c .first-field .ensures) edition; behind = omega arith }; same = ap (λ (x : Field). readFrom numberCount (c .before .before .before .args .bytes .now) 0 0 x (c .before .before .before .args .numbers .now)) (c .first-field .ensures) }
 
 read-number-requires : tie.Need-read-number-requires Inv-loop μ-loop
 read-number-requires c κs = search needs
@@ -47,48 +43,45 @@ enum-known-number c = search needs
 misread-at-requires : tie.Need-misread-at-requires Inv-loop μ-loop
 misread-at-requires c κs = search needs
 
-returns-2 : tie.Need-returns-2 Inv-loop μ-loop
-returns-2 c = read-refused _ _ _ _ _ _ _ _ (left-of _ _ (c .before .before .before .before .before .loop-test .taken)) (c .before .before .before .before .before .before .loop .inv .same) (c .before .before .before .if1 .left) _ (c .before .before .read-number .ensures) (no-value _ (c .before .match .keys2)) _ (c .misread-at .ensures)
+returns : tie.Need-returns Inv-loop μ-loop
+returns c = read-refused _ _ _ _ _ _ _ _ (to-come (c .before .before .before .before .before .loop .inv .reached) (c .before .before .before .if1 .taken)) (c .before .before .before .before .before .loop .inv .same) (c .before .before .before .if1 .taken) _ (c .before .before .read-number .ensures) (no-value _ (c .before .match .keys2)) _ (c .misread-at .ensures)
 
 in-range-requires : tie.Need-in-range-requires Inv-loop μ-loop
-in-range-requires c κs = (c .before .before .before .before .before .before .before .before .before .before .before .table .ensures, placed (c .before .before .before .before .before .before .before .before .before .loop .inv .valid) (c .before .before .before .before .before .before .if1 .left))
+in-range-requires c κs = (c .before .before .before .before .before .before .before .before .before .before .table .ensures, placed (c .before .before .before .before .before .before .before .before .loop .inv .reached .valid) (c .before .before .before .before .before .before .if1 .taken))
 
-returns-3 : tie.Need-returns-3 Inv-loop μ-loop
-returns-3 c = read-out _ _ _ _ _ _ _ _ (left-of _ _ (c .before .before .before .before .before .before .before .before .before .before .loop-test .taken)) (c .before .before .before .before .before .before .before .before .before .before .before .loop .inv .same) (c .before .before .before .before .before .before .before .before .if1 .left) _ (c .before .before .before .before .before .before .before .read-number .ensures) _ _ (c .before .before .before .before .before .number .given .1) _ (c .before .in-range .ensures) (not-true _ (c .if2 .taken))
+returns-2 : tie.Need-returns-2 Inv-loop μ-loop
+returns-2 c = read-out _ _ _ _ _ _ _ _ (to-come (c .before .before .before .before .before .before .before .before .before .before .loop .inv .reached) (c .before .before .before .before .before .before .before .before .if1 .taken)) (c .before .before .before .before .before .before .before .before .before .before .loop .inv .same) (c .before .before .before .before .before .before .before .before .if1 .taken) _ (c .before .before .before .before .before .before .before .read-number .ensures) _ _ (c .before .before .before .before .before .number .given .1) _ (c .before .in-range .ensures) (not-true _ (c .if2 .taken))
 
 mul-numbers : tie.Need-mul-numbers Inv-loop μ-loop
-mul-numbers c = omega (arith, placed (c .before .before .before .before .before .before .before .before .before .before .before .loop .inv .valid) (c .before .before .before .before .before .before .before .before .if1 .left) .place)
+mul-numbers c = omega (arith, placed (c .before .before .before .before .before .before .before .before .before .before .loop .inv .reached .valid) (c .before .before .before .before .before .before .before .before .if1 .taken) .place)
 
 element-write-numbers : tie.Need-element-write-numbers Inv-loop μ-loop
-element-write-numbers c = placed (c .before .before .before .before .before .before .before .before .before .before .before .loop .inv .valid) (c .before .before .before .before .before .before .before .before .if1 .left) .place
+element-write-numbers c = placed (c .before .before .before .before .before .before .before .before .before .before .loop .inv .reached .valid) (c .before .before .before .before .before .before .before .before .if1 .taken) .place
 
 item-start-requires : tie.Need-item-start-requires Inv-loop μ-loop
-item-start-requires c κs = (c .before .before .before .before .before .before .before .before .before .before .before .before .before .before .table .ensures, placed (c .before .before .before .before .before .before .before .before .before .before .before .before .loop .inv .valid) (c .before .before .before .before .before .before .before .before .before .if1 .left) .row)
+item-start-requires c κs = (c .before .before .before .before .before .before .before .before .before .before .before .before .before .table .ensures, placed (c .before .before .before .before .before .before .before .before .before .before .before .loop .inv .reached .valid) (c .before .before .before .before .before .before .before .before .before .if1 .taken) .row)
 
 ascends-requires : tie.Need-ascends-requires Inv-loop μ-loop
-ascends-requires c κs = (c .before .before .before .before .before .before .before .before .before .before .before .before .before .before .before .before .before .table .ensures, placed (c .before .before .before .before .before .before .before .before .before .before .before .before .before .before .before .loop .inv .valid) (c .before .before .before .before .before .before .before .before .before .before .before .before .if1 .left))
+ascends-requires c κs = (c .before .before .before .before .before .before .before .before .before .before .before .before .before .before .before .before .table .ensures, placed (c .before .before .before .before .before .before .before .before .before .before .before .before .before .before .loop .inv .reached .valid) (c .before .before .before .before .before .before .before .before .before .before .before .before .if1 .taken))
 
-returns-4 : tie.Need-returns-4 Inv-loop μ-loop
-returns-4 c = read-disorder _ _ _ _ _ _ _ _ (left-of _ _ (c .before .before .before .before .before .before .before .before .before .before .before .before .before .before .before .before .loop-test .taken)) (c .before .before .before .before .before .before .before .before .before .before .before .before .before .before .before .before .before .loop .inv .same) (c .before .before .before .before .before .before .before .before .before .before .before .before .before .before .if1 .left) _ (c .before .before .before .before .before .before .before .before .before .before .before .before .before .read-number .ensures) _ _ (c .before .before .before .before .before .before .before .before .before .before .before .number .given .1) _ (c .before .before .before .before .before .before .before .in-range .ensures) (not-false _ (c .before .before .before .before .before .before .if2 .left)) _ (c .before .before .before .before .item-start .ensures) _ (c .before .ascends .ensures) (not-true _ (c .if3 .taken))
+returns-3 : tie.Need-returns-3 Inv-loop μ-loop
+returns-3 c = read-disorder _ _ _ _ _ _ _ _ (to-come (c .before .before .before .before .before .before .before .before .before .before .before .before .before .before .before .before .loop .inv .reached) (c .before .before .before .before .before .before .before .before .before .before .before .before .before .before .if1 .taken)) (c .before .before .before .before .before .before .before .before .before .before .before .before .before .before .before .before .loop .inv .same) (c .before .before .before .before .before .before .before .before .before .before .before .before .before .before .if1 .taken) _ (c .before .before .before .before .before .before .before .before .before .before .before .before .before .read-number .ensures) _ _ (c .before .before .before .before .before .before .before .before .before .before .before .number .given .1) _ (c .before .before .before .before .before .before .before .in-range .ensures) (not-false _ (c .before .before .before .before .before .before .if2 .left)) _ (c .before .before .before .before .item-start .ensures) _ (c .before .ascends .ensures) (not-true _ (c .if3 .taken))
 
 next-field-requires : tie.Need-next-field-requires Inv-loop μ-loop
-next-field-requires c κs = (c .before .before .before .before .before .before .before .before .before .before .before .before .before .before .before .before .before .before .before .before .table .ensures, placed (c .before .before .before .before .before .before .before .before .before .before .before .before .before .before .before .before .before .before .loop .inv .valid) (c .before .before .before .before .before .before .before .before .before .before .before .before .before .before .before .if1 .left))
-
-add-count : tie.Need-add-count Inv-loop μ-loop
-add-count c = search needs
+next-field-requires c κs = (c .before .before .before .before .before .before .before .before .before .before .before .before .before .before .before .before .before .before .before .table .ensures, placed (c .before .before .before .before .before .before .before .before .before .before .before .before .before .before .before .before .before .loop .inv .reached .valid) (c .before .before .before .before .before .before .before .before .before .before .before .before .before .before .before .if1 .taken))
 
 loop-less : tie.Need-loop-less Inv-loop μ-loop
-loop-less c = search needs
+loop-less c = nearer (c .before .before .before .before .before .before .before .before .before .before .before .before .before .before .before .before .before .before .loop .inv .reached) (c .before .before .before .before .before .before .before .before .before .before .before .before .before .before .before .before .if1 .taken) (later (c .before .before .before .before .before .before .before .before .before .before .before .before .before .before .before .before .before .before .loop .inv .reached .valid) (c .before .before .before .before .before .before .before .before .before .before .before .before .before .before .before .before .if1 .taken) _ _ _ (c .before .before .before .before .before .before .before .before .before .in-range .ensures) (not-false _ (c .before .before .before .before .before .before .before .before .if2 .left)) (c .next-field .ensures))
 
 loop-again : tie.Need-loop-again Inv-loop μ-loop
 loop-again c = record {
-  few = search needs;
-  valid = later (c .before .before .before .before .before .before .before .before .before .before .before .before .before .before .before .before .before .before .before .loop .inv .valid) (c .before .before .before .before .before .before .before .before .before .before .before .before .before .before .before .before .if1 .left) _ _ _ (c .before .before .before .before .before .before .before .before .before .in-range .ensures) (not-false _ (c .before .before .before .before .before .before .before .before .if2 .left)) (c .next-field .ensures);
-  same = read-next _ _ _ _ _ _ _ _ (left-of _ _ (c .before .before .before .before .before .before .before .before .before .before .before .before .before .before .before .before .before .before .loop-test .taken)) (c .before .before .before .before .before .before .before .before .before .before .before .before .before .before .before .before .before .before .before .loop .inv .same) (c .before .before .before .before .before .before .before .before .before .before .before .before .before .before .before .before .if1 .left) _ (c .before .before .before .before .before .before .before .before .before .before .before .before .before .before .before .read-number .ensures) _ _ (c .before .before .before .before .before .before .before .before .before .before .before .before .before .number .given .1) _ (c .before .before .before .before .before .before .before .before .before .in-range .ensures) (not-false _ (c .before .before .before .before .before .before .before .before .if2 .left)) _ (c .before .before .before .before .before .before .item-start .ensures) _ (c .before .before .before .ascends .ensures) _ (c .next-field .ensures) (not-false _ (c .before .before .if3 .left));
+  count = c .before .before .before .before .before .before .before .before .before .before .before .before .before .before .before .before .before .before .loop .inv .count + 1;
+  reached = reached (c .before .before .before .before .before .before .before .before .before .before .before .before .before .before .before .before .before .before .loop .inv .reached) (c .before .before .before .before .before .before .before .before .before .before .before .before .before .before .before .before .if1 .taken) (later (c .before .before .before .before .before .before .before .before .before .before .before .before .before .before .before .before .before .before .loop .inv .reached .valid) (c .before .before .before .before .before .before .before .before .before .before .before .before .before .before .before .before .if1 .taken) _ _ _ (c .before .before .before .before .before .before .before .before .before .in-range .ensures) (not-false _ (c .before .before .before .before .before .before .before .before .if2 .left)) (c .next-field .ensures));
+  same = read-next _ _ _ _ _ _ _ _ (to-come (c .before .before .before .before .before .before .before .before .before .before .before .before .before .before .before .before .before .before .loop .inv .reached) (c .before .before .before .before .before .before .before .before .before .before .before .before .before .before .before .before .if1 .taken)) (c .before .before .before .before .before .before .before .before .before .before .before .before .before .before .before .before .before .before .loop .inv .same) (c .before .before .before .before .before .before .before .before .before .before .before .before .before .before .before .before .if1 .taken) _ (c .before .before .before .before .before .before .before .before .before .before .before .before .before .before .before .read-number .ensures) _ _ (c .before .before .before .before .before .before .before .before .before .before .before .before .before .number .given .1) _ (c .before .before .before .before .before .before .before .before .before .in-range .ensures) (not-false _ (c .before .before .before .before .before .before .before .before .if2 .left)) _ (c .before .before .before .before .before .before .item-start .ensures) _ (c .before .before .before .ascends .ensures) _ (c .next-field .ensures) (not-false _ (c .before .before .if3 .left));
 }
 
-returns-5 : tie.Need-returns-5 Inv-loop μ-loop
-returns-5 c = read-done _ _ _ _ _ _ _ (omega arith) (c .before .loop .inv .same)
+returns-4 : tie.Need-returns-4 Inv-loop μ-loop
+returns-4 c = read-done _ _ _ _ _ _ _ (c .before .before .loop .inv .same) (c .if1 .left)
 
 pub read-fields-spec : {M : Type 1} → statement M
 read-fields-spec =
@@ -99,20 +92,18 @@ read-fields-spec =
     table-requires
     first-field-requires
     loop-holds
-    returns
     read-number-requires
     enum-known-number
     misread-at-requires
-    returns-2
+    returns
     in-range-requires
-    returns-3
+    returns-2
     mul-numbers
     element-write-numbers
     item-start-requires
     ascends-requires
-    returns-4
+    returns-3
     next-field-requires
-    add-count
     loop-less
     loop-again
-    returns-5)
+    returns-4)
