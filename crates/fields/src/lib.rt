@@ -164,7 +164,7 @@ pub fn in_range(table: &[[usize; 6]; 16], l: &[u64; 1446], c: Field, v: u64) -> 
 }
 
 // Edges ascend strictly by (from, to).
-fn edge_before(from: u64, to: u64, from2: u64, to2: u64) -> bool
+pub fn edge_before(from: u64, to: u64, from2: u64, to2: u64) -> bool
     ensures { λ r. ⌜ r ≡ edgeBefore from to from2 to2 ⌝ }
 {
     if from < from2 {

@@ -4,11 +4,12 @@ use model::Fields;
 use model::Number;
 use model::Refusal;
 ghost use mathlib.Core.Path.{_≡_};
-ghost use Prim.Native.Nat.{ℕ, _+_, _≤_, _<_};
+ghost use Prim.Native.Nat.{ℕ, _+_, _*_, _≤_, _<_};
 ghost use lib.ListN.{length};
 ghost use lib.Seq.{sets};
 ghost use Rattle.model.specs.File.{numberCount, firstField, scanned, readFrom, checkFields, fileBytes};
 ghost use Rattle.scan.specs.Answers.{misread, Fits};
+ghost use Rattle.scan.specs.Edges.{Open, pastEdges, EdgesRead};
 
 fn first_field() -> Field
     ensures { λ r. ⌜ r ≡ firstField ⌝ }
@@ -31,8 +32,55 @@ fn misread_at(number: Number, size: usize, at: usize) -> Fields
     }
 }
 
+// The field behind a run of edges.
+fn past_edges(c: Field, run: usize) -> Field
+    requires { ⌜ (run ≤ c .left) × (c .place + 2 * run < 1446) ⌝ }
+    ensures { λ r. ⌜ r ≡ pastEdges c run ⌝ }
+{
+    Field {
+        row: c.row,
+        place: c.place + 2 * run,
+        left: c.left - run,
+    }
+}
+
+// How many edges from the field on, the list's first and last apart, are two single bytes in range that ascend: most of a large file. They are read
+// at once; what ends the run is left to the steps.
+fn read_edges(bytes: &[u8], numbers: &mut [u64; 1446], at: usize, field: Field) -> usize
+    requires { ⌜ Open field (now numbers) ⌝ }
+    ensures { λ r. ⌜ EdgesRead (now (bytes .entry)) at field (now (numbers .entry)) (now (numbers .exit)) r ⌝ }
+{
+    let vertices = numbers[67];
+    let first = field.place;
+    let left = field.left;
+    let mut run: usize = 0;
+    if field.row != 9 || first < 327 || 128 < vertices || bytes.len() <= at {
+        return run;
+    }
+    while run < left {
+        let pos = at + 2 * run;
+        let place = first + 2 * run;
+        if bytes.len() <= pos + 1 {
+            return run;
+        }
+        let from = bytes[pos] as u64;
+        let to = bytes[pos + 1] as u64;
+        if vertices <= from
+            || vertices <= to
+            || !fields::edge_before(numbers[place - 2], numbers[place - 1], from, to)
+        {
+            return run;
+        }
+        numbers[place] = from;
+        numbers[place + 1] = to;
+        run += 1;
+    }
+    run
+}
+
 // Reads the fields into `numbers`.
 pub fn read_fields(bytes: &[u8], numbers: &mut [u64; 1446]) -> Fields
+    requires { ⌜ length (now numbers) ≡ numberCount ⌝ }
     ensures { λ r. ⌜ scanned r (now (numbers .exit)) ≡ readFrom numberCount (now (bytes .entry)) 0 0 firstField (now (numbers .entry)) ⌝ }
 {
     let table = fields::table();
@@ -40,6 +88,9 @@ pub fn read_fields(bytes: &[u8], numbers: &mut [u64; 1446]) -> Fields
     let mut at: usize = 0;
     let mut start: usize = 0;
     while field.row < 15 {
+        let run = read_edges(bytes, numbers, at, field);
+        field = past_edges(field, run);
+        at += 2 * run;
         let number = spelling::read_number(bytes, at);
         let Number::Value(value, next) = number else {
             return misread_at(number, bytes.len(), at);

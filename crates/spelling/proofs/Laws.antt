@@ -8,9 +8,10 @@ use native.Mathlib.Nat.{mul-le-mul-right, pow-le-pow-right, pow-succ'}
 use native.Mathlib.Numerals.{add-one}
 use lib.ListN.{length, getD, set}
 use lib.Seq.{sets}
+use borrow.Author.Tests.{ne-eqb}
 use Rattle.model.specs.declared.Number.{Number}
-use Rattle.model.specs.declared.Number.the-variants.{Misspelt}
-use Rattle.model.specs.Spelling.{highFifth, readGroups, readNumber, groups, numberSize, numberBytes}
+use Rattle.model.specs.declared.Number.the-variants.{Value, Misspelt}
+use Rattle.model.specs.Spelling.{highFifth, zeroLast, readGroups, readNumber, groups, numberSize, numberBytes}
 use Rattle.model.proofs.Cases.{by-less}
 use Rattle.spelling.proofs.Reading.{Reading, reading, is-read}
 
@@ -51,6 +52,16 @@ module _ {s : List ℕ} {at l pos u v : ℕ} (r : Underway s at l pos u v) (go :
 pub runs-out : {s : List ℕ} {at l pos u v : ℕ} → Underway s at l pos u v → l ≤ 0 → Misspelt ≡ readNumber s at
 unfolding readGroups
 runs-out {l = l} r h = let e : l ≡ 0 = omega arith in rw e at (r .same)
+
+-- A byte below 128 is a number.
+zero-alone : (b : ℕ) → zeroLast 4 b ≡ false
+zero-alone zero = refl
+zero-alone (suc b) = simp (ne-eqb (suc b) 0 (omega arith))
+
+pub one-byte : (s : List ℕ) (at : ℕ) → at < length s → getD s at 0 < 128 → readNumber s at ≡ Value (getD s at 0) (at + 1)
+one-byte s at h k =
+    let same : 0 + getD s at 0 * 1 ≡ getD s at 0 = omega arith in
+    is-read (Reading.last h refl k (zero-alone (getD s at 0))) ∙ ap (λ (v : ℕ). Value v (at + 1)) same
 
 -- What holds of a size follows from the size's range: `n` groups are too few, or the number has but one, and one more is enough.
 pub by-size : (P : ℕ → Type 0) (v : ℕ) →
