@@ -1,2 +1,4 @@
 pub mod Turns
 pub mod Edges
+pub mod EdgesRead
+pub mod EdgesChecked

@@ -4,7 +4,7 @@ use mathlib.Core.Path.{_≡_}
 use mathlib.Core.List.{List}
 use lib.ListN.{length}
 use Rattle.model.specs.declared.Field.{Field}
-use Rattle.model.specs.File.{numberCount, readFrom}
+use Rattle.model.specs.File.{numberCount, readFrom, checkFrom}
 use Rattle.fields.specs.Valid.{Valid}
 
 -- The field k items of two numbers further on in its list.
@@ -23,3 +23,9 @@ pub record EdgesRead (s : List ℕ) (at : ℕ) (c : Field) (l m : List ℕ) (k :
   pub long : length m ≡ numberCount
   pub inside : at + 2 * k ≤ max at (length s)
   pub same : (n start : ℕ) → readFrom (n + 2 * k) s at start c l ≡ readFrom n s (at + 2 * k) start (pastEdges c k) m
+
+-- A run of k edges of the numbers l is judged good, and what is left to judge is the same.
+pub record EdgesChecked (c : Field) (l : List ℕ) (k : ℕ) : Type 0 where
+  pub few : k ≤ c .left
+  pub valid : Valid (pastEdges c k)
+  pub same : (n at start : ℕ) → checkFrom (n + 2 * k) at start c l ≡ checkFrom n (at + 2 * k) start (pastEdges c k) l

@@ -9,7 +9,8 @@ ghost use lib.ListN.{length};
 ghost use lib.Seq.{sets};
 ghost use Rattle.model.specs.File.{numberCount, firstField, scanned, readFrom, checkFields, fileBytes};
 ghost use Rattle.scan.specs.Answers.{misread, Fits};
-ghost use Rattle.scan.specs.Edges.{Open, pastEdges, EdgesRead};
+ghost use Rattle.scan.specs.Edges.{Open, pastEdges, EdgesRead, EdgesChecked};
+ghost use Rattle.fields.specs.Valid.{Valid};
 
 fn first_field() -> Field
     ensures { λ r. ⌜ r ≡ firstField ⌝ }
@@ -110,6 +111,33 @@ pub fn read_fields(bytes: &[u8], numbers: &mut [u64; 1446]) -> Fields
     Fields::Done(at)
 }
 
+// The same of numbers that are there already: how many edges are in range and ascend.
+fn check_edges(numbers: &[u64; 1446], field: Field) -> usize
+    requires { ⌜ Valid field ⌝ }
+    ensures { λ r. ⌜ EdgesChecked field (now (numbers .entry)) r ⌝ }
+{
+    let vertices = numbers[67];
+    let first = field.place;
+    let left = field.left;
+    let mut run: usize = 0;
+    if field.row != 9 || first < 327 || 128 < vertices {
+        return run;
+    }
+    while run < left {
+        let place = first + 2 * run;
+        let from = numbers[place];
+        let to = numbers[place + 1];
+        if vertices <= from
+            || vertices <= to
+            || !fields::edge_before(numbers[place - 2], numbers[place - 1], from, to)
+        {
+            return run;
+        }
+        run += 1;
+    }
+    run
+}
+
 // Judges numbers as a file of them would be read, placed by the bytes that they would be written as.
 pub fn check_fields(numbers: &[u64; 1446]) -> Fields
     ensures { λ r. ⌜ r ≡ checkFields (now (numbers .entry)) ⌝ }
@@ -119,6 +147,9 @@ pub fn check_fields(numbers: &[u64; 1446]) -> Fields
     let mut at: usize = 0;
     let mut start: usize = 0;
     while field.row < 15 {
+        let run = check_edges(numbers, field);
+        field = past_edges(field, run);
+        at += 2 * run;
         let place = field.place;
         let value = numbers[place];
         if !fields::in_range(&table, numbers, field, value) {

@@ -4,8 +4,8 @@ use mathlib.Core.Path.{refl, sym, _∙_}
 use native.Mathlib.Omega.{arith}
 use borrow.Author.Needs.{needs}
 use borrow.Author.Tests.{ltb-false, leb-false, not-false}
-use Rattle.fields.proofs.Steps.{placed}
-use Rattle.scan.proofs.Edges.{Edge, Running, edge-room, none-read, valid-at, as-read, turn}
+use Rattle.scan.proofs.Edges.{edge-room, valid-at}
+use Rattle.scan.proofs.EdgesRead.{Running, none-read, as-read, turn}
 use Rattle.scan.proofs.read_edges.Statement.{statement}
 use Rattle.scan.proofs.read_edges.Tie as tie
 

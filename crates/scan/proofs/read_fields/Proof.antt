@@ -13,6 +13,7 @@ use Rattle.fields.specs.Valid.{edition}
 use Rattle.fields.proofs.Steps.{placed}
 use Rattle.scan.specs.Edges.{pastEdges, EdgesRead}
 use Rattle.scan.proofs.Turns.{no-value, read-refused, read-out, read-disorder, read-next, read-done, Reached, to-come, reached, nearer, later}
+use Rattle.scan.proofs.Edges.{past-row, past-place}
 use Rattle.scan.proofs.read_fields.Statement.{statement}
 use Rattle.scan.proofs.read_fields.Tie as tie
 
@@ -22,12 +23,6 @@ record Reading (bytes numbers₀ numbers : List ℕ) (field : Field) (at start :
   within : at ≤ length bytes
   reached : Reached field count
   same : readFrom (numberCount - count) bytes at start field numbers ≡ readFrom numberCount bytes 0 0 firstField numbers₀
-
-on-row : (c : Field) (k : ℕ) {d : Field} → d ≡ pastEdges c k → c .row < 15 → d .row < 15
-on-row c k q h = rw q h
-
-ahead : (c : Field) (k : ℕ) {d : Field} → d ≡ pastEdges c k → c .place ≤ d .place
-ahead c k q = rw q (omega arith)
 
 -- Behind a run of edges the reading goes on.
 on : {bytes numbers₀ numbers : List ℕ} {c : Field} {at start : ℕ} {m : List ℕ} {k : ℕ} {d : Field} →
@@ -81,42 +76,42 @@ misread-at-requires : tie.Need-misread-at-requires Inv-loop μ-loop
 misread-at-requires c κs = search needs
 
 returns : tie.Need-returns Inv-loop μ-loop
-returns c = read-refused _ _ _ _ _ _ _ _ (to-come ((on (c .before .before .before .before .before .before .before .before .loop .inv) (c .before .before .before .before .before .before .if1 .taken) (c .before .before .before .before .read-edges .ensures) (c .before .before .before .past-edges .ensures)) .reached) (on-row (c .before .before .before .before .before .before .before .before .loop .field) (c .before .before .before .before .read-edges .result) (c .before .before .before .past-edges .ensures) (c .before .before .before .before .before .before .if1 .taken))) ((on (c .before .before .before .before .before .before .before .before .loop .inv) (c .before .before .before .before .before .before .if1 .taken) (c .before .before .before .before .read-edges .ensures) (c .before .before .before .past-edges .ensures)) .same) (on-row (c .before .before .before .before .before .before .before .before .loop .field) (c .before .before .before .before .read-edges .result) (c .before .before .before .past-edges .ensures) (c .before .before .before .before .before .before .if1 .taken)) _ (c .before .before .read-number .ensures) (no-value _ (c .before .match .keys2)) _ (c .misread-at .ensures)
+returns c = read-refused _ _ _ _ _ _ _ _ (to-come ((on (c .before .before .before .before .before .before .before .before .loop .inv) (c .before .before .before .before .before .before .if1 .taken) (c .before .before .before .before .read-edges .ensures) (c .before .before .before .past-edges .ensures)) .reached) (past-row (c .before .before .before .before .before .before .before .before .loop .field) (c .before .before .before .before .read-edges .result) (c .before .before .before .past-edges .ensures) (c .before .before .before .before .before .before .if1 .taken))) ((on (c .before .before .before .before .before .before .before .before .loop .inv) (c .before .before .before .before .before .before .if1 .taken) (c .before .before .before .before .read-edges .ensures) (c .before .before .before .past-edges .ensures)) .same) (past-row (c .before .before .before .before .before .before .before .before .loop .field) (c .before .before .before .before .read-edges .result) (c .before .before .before .past-edges .ensures) (c .before .before .before .before .before .before .if1 .taken)) _ (c .before .before .read-number .ensures) (no-value _ (c .before .match .keys2)) _ (c .misread-at .ensures)
 
 in-range-requires : tie.Need-in-range-requires Inv-loop μ-loop
-in-range-requires c κs = (c .before .before .before .before .before .before .before .before .before .before .before .before .before .table .ensures, placed ((on (c .before .before .before .before .before .before .before .before .before .before .before .loop .inv) (c .before .before .before .before .before .before .before .before .before .if1 .taken) (c .before .before .before .before .before .before .before .read-edges .ensures) (c .before .before .before .before .before .before .past-edges .ensures)) .reached .valid) (on-row (c .before .before .before .before .before .before .before .before .before .before .before .loop .field) (c .before .before .before .before .before .before .before .read-edges .result) (c .before .before .before .before .before .before .past-edges .ensures) (c .before .before .before .before .before .before .before .before .before .if1 .taken)))
+in-range-requires c κs = (c .before .before .before .before .before .before .before .before .before .before .before .before .before .table .ensures, placed ((on (c .before .before .before .before .before .before .before .before .before .before .before .loop .inv) (c .before .before .before .before .before .before .before .before .before .if1 .taken) (c .before .before .before .before .before .before .before .read-edges .ensures) (c .before .before .before .before .before .before .past-edges .ensures)) .reached .valid) (past-row (c .before .before .before .before .before .before .before .before .before .before .before .loop .field) (c .before .before .before .before .before .before .before .read-edges .result) (c .before .before .before .before .before .before .past-edges .ensures) (c .before .before .before .before .before .before .before .before .before .if1 .taken)))
 
 returns-2 : tie.Need-returns-2 Inv-loop μ-loop
-returns-2 c = read-out _ _ _ _ _ _ _ _ (to-come ((on (c .before .before .before .before .before .before .before .before .before .before .before .before .before .loop .inv) (c .before .before .before .before .before .before .before .before .before .before .before .if1 .taken) (c .before .before .before .before .before .before .before .before .before .read-edges .ensures) (c .before .before .before .before .before .before .before .before .past-edges .ensures)) .reached) (on-row (c .before .before .before .before .before .before .before .before .before .before .before .before .before .loop .field) (c .before .before .before .before .before .before .before .before .before .read-edges .result) (c .before .before .before .before .before .before .before .before .past-edges .ensures) (c .before .before .before .before .before .before .before .before .before .before .before .if1 .taken))) ((on (c .before .before .before .before .before .before .before .before .before .before .before .before .before .loop .inv) (c .before .before .before .before .before .before .before .before .before .before .before .if1 .taken) (c .before .before .before .before .before .before .before .before .before .read-edges .ensures) (c .before .before .before .before .before .before .before .before .past-edges .ensures)) .same) (on-row (c .before .before .before .before .before .before .before .before .before .before .before .before .before .loop .field) (c .before .before .before .before .before .before .before .before .before .read-edges .result) (c .before .before .before .before .before .before .before .before .past-edges .ensures) (c .before .before .before .before .before .before .before .before .before .before .before .if1 .taken)) _ (c .before .before .before .before .before .before .before .read-number .ensures) _ _ (c .before .before .before .before .before .number .given .1) _ (c .before .in-range .ensures) (not-true _ (c .if2 .taken))
+returns-2 c = read-out _ _ _ _ _ _ _ _ (to-come ((on (c .before .before .before .before .before .before .before .before .before .before .before .before .before .loop .inv) (c .before .before .before .before .before .before .before .before .before .before .before .if1 .taken) (c .before .before .before .before .before .before .before .before .before .read-edges .ensures) (c .before .before .before .before .before .before .before .before .past-edges .ensures)) .reached) (past-row (c .before .before .before .before .before .before .before .before .before .before .before .before .before .loop .field) (c .before .before .before .before .before .before .before .before .before .read-edges .result) (c .before .before .before .before .before .before .before .before .past-edges .ensures) (c .before .before .before .before .before .before .before .before .before .before .before .if1 .taken))) ((on (c .before .before .before .before .before .before .before .before .before .before .before .before .before .loop .inv) (c .before .before .before .before .before .before .before .before .before .before .before .if1 .taken) (c .before .before .before .before .before .before .before .before .before .read-edges .ensures) (c .before .before .before .before .before .before .before .before .past-edges .ensures)) .same) (past-row (c .before .before .before .before .before .before .before .before .before .before .before .before .before .loop .field) (c .before .before .before .before .before .before .before .before .before .read-edges .result) (c .before .before .before .before .before .before .before .before .past-edges .ensures) (c .before .before .before .before .before .before .before .before .before .before .before .if1 .taken)) _ (c .before .before .before .before .before .before .before .read-number .ensures) _ _ (c .before .before .before .before .before .number .given .1) _ (c .before .in-range .ensures) (not-true _ (c .if2 .taken))
 
 mul-numbers : tie.Need-mul-numbers Inv-loop μ-loop
-mul-numbers c = omega (arith, placed ((on (c .before .before .before .before .before .before .before .before .before .before .before .before .before .loop .inv) (c .before .before .before .before .before .before .before .before .before .before .before .if1 .taken) (c .before .before .before .before .before .before .before .before .before .read-edges .ensures) (c .before .before .before .before .before .before .before .before .past-edges .ensures)) .reached .valid) (on-row (c .before .before .before .before .before .before .before .before .before .before .before .before .before .loop .field) (c .before .before .before .before .before .before .before .before .before .read-edges .result) (c .before .before .before .before .before .before .before .before .past-edges .ensures) (c .before .before .before .before .before .before .before .before .before .before .before .if1 .taken)) .place)
+mul-numbers c = omega (arith, placed ((on (c .before .before .before .before .before .before .before .before .before .before .before .before .before .loop .inv) (c .before .before .before .before .before .before .before .before .before .before .before .if1 .taken) (c .before .before .before .before .before .before .before .before .before .read-edges .ensures) (c .before .before .before .before .before .before .before .before .past-edges .ensures)) .reached .valid) (past-row (c .before .before .before .before .before .before .before .before .before .before .before .before .before .loop .field) (c .before .before .before .before .before .before .before .before .before .read-edges .result) (c .before .before .before .before .before .before .before .before .past-edges .ensures) (c .before .before .before .before .before .before .before .before .before .before .before .if1 .taken)) .place)
 
 element-write-numbers : tie.Need-element-write-numbers Inv-loop μ-loop
-element-write-numbers c = placed ((on (c .before .before .before .before .before .before .before .before .before .before .before .before .before .loop .inv) (c .before .before .before .before .before .before .before .before .before .before .before .if1 .taken) (c .before .before .before .before .before .before .before .before .before .read-edges .ensures) (c .before .before .before .before .before .before .before .before .past-edges .ensures)) .reached .valid) (on-row (c .before .before .before .before .before .before .before .before .before .before .before .before .before .loop .field) (c .before .before .before .before .before .before .before .before .before .read-edges .result) (c .before .before .before .before .before .before .before .before .past-edges .ensures) (c .before .before .before .before .before .before .before .before .before .before .before .if1 .taken)) .place
+element-write-numbers c = placed ((on (c .before .before .before .before .before .before .before .before .before .before .before .before .before .loop .inv) (c .before .before .before .before .before .before .before .before .before .before .before .if1 .taken) (c .before .before .before .before .before .before .before .before .before .read-edges .ensures) (c .before .before .before .before .before .before .before .before .past-edges .ensures)) .reached .valid) (past-row (c .before .before .before .before .before .before .before .before .before .before .before .before .before .loop .field) (c .before .before .before .before .before .before .before .before .before .read-edges .result) (c .before .before .before .before .before .before .before .before .past-edges .ensures) (c .before .before .before .before .before .before .before .before .before .before .before .if1 .taken)) .place
 
 item-start-requires : tie.Need-item-start-requires Inv-loop μ-loop
-item-start-requires c κs = (c .before .before .before .before .before .before .before .before .before .before .before .before .before .before .before .before .table .ensures, placed ((on (c .before .before .before .before .before .before .before .before .before .before .before .before .before .before .loop .inv) (c .before .before .before .before .before .before .before .before .before .before .before .before .if1 .taken) (c .before .before .before .before .before .before .before .before .before .before .read-edges .ensures) (c .before .before .before .before .before .before .before .before .before .past-edges .ensures)) .reached .valid) (on-row (c .before .before .before .before .before .before .before .before .before .before .before .before .before .before .loop .field) (c .before .before .before .before .before .before .before .before .before .before .read-edges .result) (c .before .before .before .before .before .before .before .before .before .past-edges .ensures) (c .before .before .before .before .before .before .before .before .before .before .before .before .if1 .taken)) .row)
+item-start-requires c κs = (c .before .before .before .before .before .before .before .before .before .before .before .before .before .before .before .before .table .ensures, placed ((on (c .before .before .before .before .before .before .before .before .before .before .before .before .before .before .loop .inv) (c .before .before .before .before .before .before .before .before .before .before .before .before .if1 .taken) (c .before .before .before .before .before .before .before .before .before .before .read-edges .ensures) (c .before .before .before .before .before .before .before .before .before .past-edges .ensures)) .reached .valid) (past-row (c .before .before .before .before .before .before .before .before .before .before .before .before .before .before .loop .field) (c .before .before .before .before .before .before .before .before .before .before .read-edges .result) (c .before .before .before .before .before .before .before .before .before .past-edges .ensures) (c .before .before .before .before .before .before .before .before .before .before .before .before .if1 .taken)) .row)
 
 ascends-requires : tie.Need-ascends-requires Inv-loop μ-loop
-ascends-requires c κs = (c .before .before .before .before .before .before .before .before .before .before .before .before .before .before .before .before .before .before .before .table .ensures, placed ((on (c .before .before .before .before .before .before .before .before .before .before .before .before .before .before .before .before .before .loop .inv) (c .before .before .before .before .before .before .before .before .before .before .before .before .before .before .before .if1 .taken) (c .before .before .before .before .before .before .before .before .before .before .before .before .before .read-edges .ensures) (c .before .before .before .before .before .before .before .before .before .before .before .before .past-edges .ensures)) .reached .valid) (on-row (c .before .before .before .before .before .before .before .before .before .before .before .before .before .before .before .before .before .loop .field) (c .before .before .before .before .before .before .before .before .before .before .before .before .before .read-edges .result) (c .before .before .before .before .before .before .before .before .before .before .before .before .past-edges .ensures) (c .before .before .before .before .before .before .before .before .before .before .before .before .before .before .before .if1 .taken)))
+ascends-requires c κs = (c .before .before .before .before .before .before .before .before .before .before .before .before .before .before .before .before .before .before .before .table .ensures, placed ((on (c .before .before .before .before .before .before .before .before .before .before .before .before .before .before .before .before .before .loop .inv) (c .before .before .before .before .before .before .before .before .before .before .before .before .before .before .before .if1 .taken) (c .before .before .before .before .before .before .before .before .before .before .before .before .before .read-edges .ensures) (c .before .before .before .before .before .before .before .before .before .before .before .before .past-edges .ensures)) .reached .valid) (past-row (c .before .before .before .before .before .before .before .before .before .before .before .before .before .before .before .before .before .loop .field) (c .before .before .before .before .before .before .before .before .before .before .before .before .before .read-edges .result) (c .before .before .before .before .before .before .before .before .before .before .before .before .past-edges .ensures) (c .before .before .before .before .before .before .before .before .before .before .before .before .before .before .before .if1 .taken)))
 
 returns-3 : tie.Need-returns-3 Inv-loop μ-loop
-returns-3 c = read-disorder _ _ _ _ _ _ _ _ (to-come ((on (c .before .before .before .before .before .before .before .before .before .before .before .before .before .before .before .before .before .before .before .loop .inv) (c .before .before .before .before .before .before .before .before .before .before .before .before .before .before .before .before .before .if1 .taken) (c .before .before .before .before .before .before .before .before .before .before .before .before .before .before .before .read-edges .ensures) (c .before .before .before .before .before .before .before .before .before .before .before .before .before .before .past-edges .ensures)) .reached) (on-row (c .before .before .before .before .before .before .before .before .before .before .before .before .before .before .before .before .before .before .before .loop .field) (c .before .before .before .before .before .before .before .before .before .before .before .before .before .before .before .read-edges .result) (c .before .before .before .before .before .before .before .before .before .before .before .before .before .before .past-edges .ensures) (c .before .before .before .before .before .before .before .before .before .before .before .before .before .before .before .before .before .if1 .taken))) ((on (c .before .before .before .before .before .before .before .before .before .before .before .before .before .before .before .before .before .before .before .loop .inv) (c .before .before .before .before .before .before .before .before .before .before .before .before .before .before .before .before .before .if1 .taken) (c .before .before .before .before .before .before .before .before .before .before .before .before .before .before .before .read-edges .ensures) (c .before .before .before .before .before .before .before .before .before .before .before .before .before .before .past-edges .ensures)) .same) (on-row (c .before .before .before .before .before .before .before .before .before .before .before .before .before .before .before .before .before .before .before .loop .field) (c .before .before .before .before .before .before .before .before .before .before .before .before .before .before .before .read-edges .result) (c .before .before .before .before .before .before .before .before .before .before .before .before .before .before .past-edges .ensures) (c .before .before .before .before .before .before .before .before .before .before .before .before .before .before .before .before .before .if1 .taken)) _ (c .before .before .before .before .before .before .before .before .before .before .before .before .before .read-number .ensures) _ _ (c .before .before .before .before .before .before .before .before .before .before .before .number .given .1) _ (c .before .before .before .before .before .before .before .in-range .ensures) (not-false _ (c .before .before .before .before .before .before .if2 .left)) _ (c .before .before .before .before .item-start .ensures) _ (c .before .ascends .ensures) (not-true _ (c .if3 .taken))
+returns-3 c = read-disorder _ _ _ _ _ _ _ _ (to-come ((on (c .before .before .before .before .before .before .before .before .before .before .before .before .before .before .before .before .before .before .before .loop .inv) (c .before .before .before .before .before .before .before .before .before .before .before .before .before .before .before .before .before .if1 .taken) (c .before .before .before .before .before .before .before .before .before .before .before .before .before .before .before .read-edges .ensures) (c .before .before .before .before .before .before .before .before .before .before .before .before .before .before .past-edges .ensures)) .reached) (past-row (c .before .before .before .before .before .before .before .before .before .before .before .before .before .before .before .before .before .before .before .loop .field) (c .before .before .before .before .before .before .before .before .before .before .before .before .before .before .before .read-edges .result) (c .before .before .before .before .before .before .before .before .before .before .before .before .before .before .past-edges .ensures) (c .before .before .before .before .before .before .before .before .before .before .before .before .before .before .before .before .before .if1 .taken))) ((on (c .before .before .before .before .before .before .before .before .before .before .before .before .before .before .before .before .before .before .before .loop .inv) (c .before .before .before .before .before .before .before .before .before .before .before .before .before .before .before .before .before .if1 .taken) (c .before .before .before .before .before .before .before .before .before .before .before .before .before .before .before .read-edges .ensures) (c .before .before .before .before .before .before .before .before .before .before .before .before .before .before .past-edges .ensures)) .same) (past-row (c .before .before .before .before .before .before .before .before .before .before .before .before .before .before .before .before .before .before .before .loop .field) (c .before .before .before .before .before .before .before .before .before .before .before .before .before .before .before .read-edges .result) (c .before .before .before .before .before .before .before .before .before .before .before .before .before .before .past-edges .ensures) (c .before .before .before .before .before .before .before .before .before .before .before .before .before .before .before .before .before .if1 .taken)) _ (c .before .before .before .before .before .before .before .before .before .before .before .before .before .read-number .ensures) _ _ (c .before .before .before .before .before .before .before .before .before .before .before .number .given .1) _ (c .before .before .before .before .before .before .before .in-range .ensures) (not-false _ (c .before .before .before .before .before .before .if2 .left)) _ (c .before .before .before .before .item-start .ensures) _ (c .before .ascends .ensures) (not-true _ (c .if3 .taken))
 
 next-field-requires : tie.Need-next-field-requires Inv-loop μ-loop
-next-field-requires c κs = (c .before .before .before .before .before .before .before .before .before .before .before .before .before .before .before .before .before .before .before .before .before .before .table .ensures, placed ((on (c .before .before .before .before .before .before .before .before .before .before .before .before .before .before .before .before .before .before .before .before .loop .inv) (c .before .before .before .before .before .before .before .before .before .before .before .before .before .before .before .before .before .before .if1 .taken) (c .before .before .before .before .before .before .before .before .before .before .before .before .before .before .before .before .read-edges .ensures) (c .before .before .before .before .before .before .before .before .before .before .before .before .before .before .before .past-edges .ensures)) .reached .valid) (on-row (c .before .before .before .before .before .before .before .before .before .before .before .before .before .before .before .before .before .before .before .before .loop .field) (c .before .before .before .before .before .before .before .before .before .before .before .before .before .before .before .before .read-edges .result) (c .before .before .before .before .before .before .before .before .before .before .before .before .before .before .before .past-edges .ensures) (c .before .before .before .before .before .before .before .before .before .before .before .before .before .before .before .before .before .before .if1 .taken)))
+next-field-requires c κs = (c .before .before .before .before .before .before .before .before .before .before .before .before .before .before .before .before .before .before .before .before .before .before .table .ensures, placed ((on (c .before .before .before .before .before .before .before .before .before .before .before .before .before .before .before .before .before .before .before .before .loop .inv) (c .before .before .before .before .before .before .before .before .before .before .before .before .before .before .before .before .before .before .if1 .taken) (c .before .before .before .before .before .before .before .before .before .before .before .before .before .before .before .before .read-edges .ensures) (c .before .before .before .before .before .before .before .before .before .before .before .before .before .before .before .past-edges .ensures)) .reached .valid) (past-row (c .before .before .before .before .before .before .before .before .before .before .before .before .before .before .before .before .before .before .before .before .loop .field) (c .before .before .before .before .before .before .before .before .before .before .before .before .before .before .before .before .read-edges .result) (c .before .before .before .before .before .before .before .before .before .before .before .before .before .before .before .past-edges .ensures) (c .before .before .before .before .before .before .before .before .before .before .before .before .before .before .before .before .before .before .if1 .taken)))
 
 loop-less : tie.Need-loop-less Inv-loop μ-loop
-loop-less c = omega (arith, ahead (c .before .before .before .before .before .before .before .before .before .before .before .before .before .before .before .before .before .before .before .before .before .loop .field) (c .before .before .before .before .before .before .before .before .before .before .before .before .before .before .before .before .before .read-edges .result) (c .before .before .before .before .before .before .before .before .before .before .before .before .before .before .before .before .past-edges .ensures), nearer ((on (c .before .before .before .before .before .before .before .before .before .before .before .before .before .before .before .before .before .before .before .before .before .loop .inv) (c .before .before .before .before .before .before .before .before .before .before .before .before .before .before .before .before .before .before .before .if1 .taken) (c .before .before .before .before .before .before .before .before .before .before .before .before .before .before .before .before .before .read-edges .ensures) (c .before .before .before .before .before .before .before .before .before .before .before .before .before .before .before .before .past-edges .ensures)) .reached) (on-row (c .before .before .before .before .before .before .before .before .before .before .before .before .before .before .before .before .before .before .before .before .before .loop .field) (c .before .before .before .before .before .before .before .before .before .before .before .before .before .before .before .before .before .read-edges .result) (c .before .before .before .before .before .before .before .before .before .before .before .before .before .before .before .before .past-edges .ensures) (c .before .before .before .before .before .before .before .before .before .before .before .before .before .before .before .before .before .before .before .if1 .taken)) (later ((on (c .before .before .before .before .before .before .before .before .before .before .before .before .before .before .before .before .before .before .before .before .before .loop .inv) (c .before .before .before .before .before .before .before .before .before .before .before .before .before .before .before .before .before .before .before .if1 .taken) (c .before .before .before .before .before .before .before .before .before .before .before .before .before .before .before .before .before .read-edges .ensures) (c .before .before .before .before .before .before .before .before .before .before .before .before .before .before .before .before .past-edges .ensures)) .reached .valid) (on-row (c .before .before .before .before .before .before .before .before .before .before .before .before .before .before .before .before .before .before .before .before .before .loop .field) (c .before .before .before .before .before .before .before .before .before .before .before .before .before .before .before .before .before .read-edges .result) (c .before .before .before .before .before .before .before .before .before .before .before .before .before .before .before .before .past-edges .ensures) (c .before .before .before .before .before .before .before .before .before .before .before .before .before .before .before .before .before .before .before .if1 .taken)) _ _ _ (c .before .before .before .before .before .before .before .before .before .in-range .ensures) (not-false _ (c .before .before .before .before .before .before .before .before .if2 .left)) (c .next-field .ensures)))
+loop-less c = omega (arith, past-place (c .before .before .before .before .before .before .before .before .before .before .before .before .before .before .before .before .before .before .before .before .before .loop .field) (c .before .before .before .before .before .before .before .before .before .before .before .before .before .before .before .before .before .read-edges .result) (c .before .before .before .before .before .before .before .before .before .before .before .before .before .before .before .before .past-edges .ensures), nearer ((on (c .before .before .before .before .before .before .before .before .before .before .before .before .before .before .before .before .before .before .before .before .before .loop .inv) (c .before .before .before .before .before .before .before .before .before .before .before .before .before .before .before .before .before .before .before .if1 .taken) (c .before .before .before .before .before .before .before .before .before .before .before .before .before .before .before .before .before .read-edges .ensures) (c .before .before .before .before .before .before .before .before .before .before .before .before .before .before .before .before .past-edges .ensures)) .reached) (past-row (c .before .before .before .before .before .before .before .before .before .before .before .before .before .before .before .before .before .before .before .before .before .loop .field) (c .before .before .before .before .before .before .before .before .before .before .before .before .before .before .before .before .before .read-edges .result) (c .before .before .before .before .before .before .before .before .before .before .before .before .before .before .before .before .past-edges .ensures) (c .before .before .before .before .before .before .before .before .before .before .before .before .before .before .before .before .before .before .before .if1 .taken)) (later ((on (c .before .before .before .before .before .before .before .before .before .before .before .before .before .before .before .before .before .before .before .before .before .loop .inv) (c .before .before .before .before .before .before .before .before .before .before .before .before .before .before .before .before .before .before .before .if1 .taken) (c .before .before .before .before .before .before .before .before .before .before .before .before .before .before .before .before .before .read-edges .ensures) (c .before .before .before .before .before .before .before .before .before .before .before .before .before .before .before .before .past-edges .ensures)) .reached .valid) (past-row (c .before .before .before .before .before .before .before .before .before .before .before .before .before .before .before .before .before .before .before .before .before .loop .field) (c .before .before .before .before .before .before .before .before .before .before .before .before .before .before .before .before .before .read-edges .result) (c .before .before .before .before .before .before .before .before .before .before .before .before .before .before .before .before .past-edges .ensures) (c .before .before .before .before .before .before .before .before .before .before .before .before .before .before .before .before .before .before .before .if1 .taken)) _ _ _ (c .before .before .before .before .before .before .before .before .before .in-range .ensures) (not-false _ (c .before .before .before .before .before .before .before .before .if2 .left)) (c .next-field .ensures)))
 
 loop-again : tie.Need-loop-again Inv-loop μ-loop
 loop-again c = record {
   count = (on (c .before .before .before .before .before .before .before .before .before .before .before .before .before .before .before .before .before .before .before .before .before .loop .inv) (c .before .before .before .before .before .before .before .before .before .before .before .before .before .before .before .before .before .before .before .if1 .taken) (c .before .before .before .before .before .before .before .before .before .before .before .before .before .before .before .before .before .read-edges .ensures) (c .before .before .before .before .before .before .before .before .before .before .before .before .before .before .before .before .past-edges .ensures)) .count + 1;
-  reached = reached ((on (c .before .before .before .before .before .before .before .before .before .before .before .before .before .before .before .before .before .before .before .before .before .loop .inv) (c .before .before .before .before .before .before .before .before .before .before .before .before .before .before .before .before .before .before .before .if1 .taken) (c .before .before .before .before .before .before .before .before .before .before .before .before .before .before .before .before .before .read-edges .ensures) (c .before .before .before .before .before .before .before .before .before .before .before .before .before .before .before .before .past-edges .ensures)) .reached) (on-row (c .before .before .before .before .before .before .before .before .before .before .before .before .before .before .before .before .before .before .before .before .before .loop .field) (c .before .before .before .before .before .before .before .before .before .before .before .before .before .before .before .before .before .read-edges .result) (c .before .before .before .before .before .before .before .before .before .before .before .before .before .before .before .before .past-edges .ensures) (c .before .before .before .before .before .before .before .before .before .before .before .before .before .before .before .before .before .before .before .if1 .taken)) (later ((on (c .before .before .before .before .before .before .before .before .before .before .before .before .before .before .before .before .before .before .before .before .before .loop .inv) (c .before .before .before .before .before .before .before .before .before .before .before .before .before .before .before .before .before .before .before .if1 .taken) (c .before .before .before .before .before .before .before .before .before .before .before .before .before .before .before .before .before .read-edges .ensures) (c .before .before .before .before .before .before .before .before .before .before .before .before .before .before .before .before .past-edges .ensures)) .reached .valid) (on-row (c .before .before .before .before .before .before .before .before .before .before .before .before .before .before .before .before .before .before .before .before .before .loop .field) (c .before .before .before .before .before .before .before .before .before .before .before .before .before .before .before .before .before .read-edges .result) (c .before .before .before .before .before .before .before .before .before .before .before .before .before .before .before .before .past-edges .ensures) (c .before .before .before .before .before .before .before .before .before .before .before .before .before .before .before .before .before .before .before .if1 .taken)) _ _ _ (c .before .before .before .before .before .before .before .before .before .in-range .ensures) (not-false _ (c .before .before .before .before .before .before .before .before .if2 .left)) (c .next-field .ensures));
+  reached = reached ((on (c .before .before .before .before .before .before .before .before .before .before .before .before .before .before .before .before .before .before .before .before .before .loop .inv) (c .before .before .before .before .before .before .before .before .before .before .before .before .before .before .before .before .before .before .before .if1 .taken) (c .before .before .before .before .before .before .before .before .before .before .before .before .before .before .before .before .before .read-edges .ensures) (c .before .before .before .before .before .before .before .before .before .before .before .before .before .before .before .before .past-edges .ensures)) .reached) (past-row (c .before .before .before .before .before .before .before .before .before .before .before .before .before .before .before .before .before .before .before .before .before .loop .field) (c .before .before .before .before .before .before .before .before .before .before .before .before .before .before .before .before .before .read-edges .result) (c .before .before .before .before .before .before .before .before .before .before .before .before .before .before .before .before .past-edges .ensures) (c .before .before .before .before .before .before .before .before .before .before .before .before .before .before .before .before .before .before .before .if1 .taken)) (later ((on (c .before .before .before .before .before .before .before .before .before .before .before .before .before .before .before .before .before .before .before .before .before .loop .inv) (c .before .before .before .before .before .before .before .before .before .before .before .before .before .before .before .before .before .before .before .if1 .taken) (c .before .before .before .before .before .before .before .before .before .before .before .before .before .before .before .before .before .read-edges .ensures) (c .before .before .before .before .before .before .before .before .before .before .before .before .before .before .before .before .past-edges .ensures)) .reached .valid) (past-row (c .before .before .before .before .before .before .before .before .before .before .before .before .before .before .before .before .before .before .before .before .before .loop .field) (c .before .before .before .before .before .before .before .before .before .before .before .before .before .before .before .before .before .read-edges .result) (c .before .before .before .before .before .before .before .before .before .before .before .before .before .before .before .before .past-edges .ensures) (c .before .before .before .before .before .before .before .before .before .before .before .before .before .before .before .before .before .before .before .if1 .taken)) _ _ _ (c .before .before .before .before .before .before .before .before .before .in-range .ensures) (not-false _ (c .before .before .before .before .before .before .before .before .if2 .left)) (c .next-field .ensures));
   long = simp length-set ((on (c .before .before .before .before .before .before .before .before .before .before .before .before .before .before .before .before .before .before .before .before .before .loop .inv) (c .before .before .before .before .before .before .before .before .before .before .before .before .before .before .before .before .before .before .before .if1 .taken) (c .before .before .before .before .before .before .before .before .before .before .before .before .before .before .before .before .before .read-edges .ensures) (c .before .before .before .before .before .before .before .before .before .before .before .before .before .before .before .before .past-edges .ensures)) .long);
   within = number-ends _ _ _ _ (sym (c .before .before .before .before .before .before .before .before .before .before .before .before .before .before .before .read-number .ensures) ∙ c .before .before .before .before .before .before .before .before .before .before .before .before .before .number .given .1) .2;
-  same = read-next _ _ _ _ _ _ _ _ (to-come ((on (c .before .before .before .before .before .before .before .before .before .before .before .before .before .before .before .before .before .before .before .before .before .loop .inv) (c .before .before .before .before .before .before .before .before .before .before .before .before .before .before .before .before .before .before .before .if1 .taken) (c .before .before .before .before .before .before .before .before .before .before .before .before .before .before .before .before .before .read-edges .ensures) (c .before .before .before .before .before .before .before .before .before .before .before .before .before .before .before .before .past-edges .ensures)) .reached) (on-row (c .before .before .before .before .before .before .before .before .before .before .before .before .before .before .before .before .before .before .before .before .before .loop .field) (c .before .before .before .before .before .before .before .before .before .before .before .before .before .before .before .before .before .read-edges .result) (c .before .before .before .before .before .before .before .before .before .before .before .before .before .before .before .before .past-edges .ensures) (c .before .before .before .before .before .before .before .before .before .before .before .before .before .before .before .before .before .before .before .if1 .taken))) ((on (c .before .before .before .before .before .before .before .before .before .before .before .before .before .before .before .before .before .before .before .before .before .loop .inv) (c .before .before .before .before .before .before .before .before .before .before .before .before .before .before .before .before .before .before .before .if1 .taken) (c .before .before .before .before .before .before .before .before .before .before .before .before .before .before .before .before .before .read-edges .ensures) (c .before .before .before .before .before .before .before .before .before .before .before .before .before .before .before .before .past-edges .ensures)) .same) (on-row (c .before .before .before .before .before .before .before .before .before .before .before .before .before .before .before .before .before .before .before .before .before .loop .field) (c .before .before .before .before .before .before .before .before .before .before .before .before .before .before .before .before .before .read-edges .result) (c .before .before .before .before .before .before .before .before .before .before .before .before .before .before .before .before .past-edges .ensures) (c .before .before .before .before .before .before .before .before .before .before .before .before .before .before .before .before .before .before .before .if1 .taken)) _ (c .before .before .before .before .before .before .before .before .before .before .before .before .before .before .before .read-number .ensures) _ _ (c .before .before .before .before .before .before .before .before .before .before .before .before .before .number .given .1) _ (c .before .before .before .before .before .before .before .before .before .in-range .ensures) (not-false _ (c .before .before .before .before .before .before .before .before .if2 .left)) _ (c .before .before .before .before .before .before .item-start .ensures) _ (c .before .before .before .ascends .ensures) _ (c .next-field .ensures) (not-false _ (c .before .before .if3 .left));
+  same = read-next _ _ _ _ _ _ _ _ (to-come ((on (c .before .before .before .before .before .before .before .before .before .before .before .before .before .before .before .before .before .before .before .before .before .loop .inv) (c .before .before .before .before .before .before .before .before .before .before .before .before .before .before .before .before .before .before .before .if1 .taken) (c .before .before .before .before .before .before .before .before .before .before .before .before .before .before .before .before .before .read-edges .ensures) (c .before .before .before .before .before .before .before .before .before .before .before .before .before .before .before .before .past-edges .ensures)) .reached) (past-row (c .before .before .before .before .before .before .before .before .before .before .before .before .before .before .before .before .before .before .before .before .before .loop .field) (c .before .before .before .before .before .before .before .before .before .before .before .before .before .before .before .before .before .read-edges .result) (c .before .before .before .before .before .before .before .before .before .before .before .before .before .before .before .before .past-edges .ensures) (c .before .before .before .before .before .before .before .before .before .before .before .before .before .before .before .before .before .before .before .if1 .taken))) ((on (c .before .before .before .before .before .before .before .before .before .before .before .before .before .before .before .before .before .before .before .before .before .loop .inv) (c .before .before .before .before .before .before .before .before .before .before .before .before .before .before .before .before .before .before .before .if1 .taken) (c .before .before .before .before .before .before .before .before .before .before .before .before .before .before .before .before .before .read-edges .ensures) (c .before .before .before .before .before .before .before .before .before .before .before .before .before .before .before .before .past-edges .ensures)) .same) (past-row (c .before .before .before .before .before .before .before .before .before .before .before .before .before .before .before .before .before .before .before .before .before .loop .field) (c .before .before .before .before .before .before .before .before .before .before .before .before .before .before .before .before .before .read-edges .result) (c .before .before .before .before .before .before .before .before .before .before .before .before .before .before .before .before .past-edges .ensures) (c .before .before .before .before .before .before .before .before .before .before .before .before .before .before .before .before .before .before .before .if1 .taken)) _ (c .before .before .before .before .before .before .before .before .before .before .before .before .before .before .before .read-number .ensures) _ _ (c .before .before .before .before .before .before .before .before .before .before .before .before .before .number .given .1) _ (c .before .before .before .before .before .before .before .before .before .in-range .ensures) (not-false _ (c .before .before .before .before .before .before .before .before .if2 .left)) _ (c .before .before .before .before .before .before .item-start .ensures) _ (c .before .before .before .ascends .ensures) _ (c .next-field .ensures) (not-false _ (c .before .before .if3 .left));
 }
 
 returns-4 : tie.Need-returns-4 Inv-loop μ-loop
