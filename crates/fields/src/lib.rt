@@ -1,25 +1,27 @@
 // The field table of the problem file, and going through its fields in order. Reading and writing alike use these.
 use model::Field;
 ghost use mathlib.Core.Path.{_≡_};
-ghost use Prim.Native.Nat.{ℕ, _+_, _≤_, _<_};
+ghost use Prim.Native.Nat.{_<_};
 ghost use lib.ListN.{getD};
 ghost use Rattle.fields.specs.Valid.{Placed};
 ghost use Rattle.fields.specs.Rows.{entry, rows};
 ghost use Rattle.model.specs.File.{nextField, afterCount, afterItem, inRange, belowCount, fromHeader, edgeBefore, itemStart};
 
-// The columns of the field table: the least and the greatest value of a row; the place of its first number; its kind (0 a number by itself, 1 the
-// count of a list, 2 the first number of an item, 3 one between, 4 the last); the row that the count of an empty list leads to, or an item's last
-// number where another item follows; the place of the count that the row's numbers stay below, or 0.
+// The columns of the field table. First the least and the greatest value of a row.
 const LEAST: usize = 0;
 
 const GREATEST: usize = 1;
 
+// The place of the row's first number.
 const BASE: usize = 2;
 
+// 0 a number by itself, 1 the count of a list, 2 the first number of an item, 3 one between, 4 the last.
 const KIND: usize = 3;
 
+// Where the count of an empty list leads, and an item's last number where another item follows.
 const JUMP: usize = 4;
 
+// The place of the count that the row's numbers stay below, or 0.
 const COUNT: usize = 5;
 
 // The rows, in file order, and the end of the file.

@@ -12,7 +12,7 @@ use Rattle.model.specs.Table.{kinds}
 use Rattle.model.specs.Spelling.{numberSize}
 use Rattle.model.specs.File.{edgeBefore, itemStart, checkFrom}
 use Rattle.fields.specs.Valid.{Valid, field}
-use Rattle.scan.specs.Edges.{pastEdges, EdgesChecked}
+use Rattle.scan.specs.Edges.{EdgesChecked}
 use Rattle.scan.proofs.Turns.{check-next, later}
 use Rattle.scan.proofs.Edges.{from-ranged, to-ranged, from-ascends, from-next, to-next, ordered}
 

@@ -13,7 +13,7 @@ use Rattle.model.specs.Table.{kinds}
 use Rattle.model.specs.File.{numberCount, edgeBefore, ascends, itemStart, readFrom}
 use Rattle.spelling.proofs.Laws.{one-byte}
 use Rattle.fields.specs.Valid.{Valid, field}
-use Rattle.scan.specs.Edges.{pastEdges, EdgesRead}
+use Rattle.scan.specs.Edges.{EdgesRead}
 use Rattle.scan.proofs.Turns.{read-next, later}
 use Rattle.scan.proofs.Edges.{from-ranged, to-ranged, from-ascends, from-next, to-next, ordered}
 

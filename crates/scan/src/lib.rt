@@ -4,13 +4,22 @@ use model::Fields;
 use model::Number;
 use model::Refusal;
 ghost use mathlib.Core.Path.{_≡_};
-ghost use Prim.Native.Nat.{ℕ, _+_, _*_, _≤_, _<_};
+ghost use Prim.Native.Nat.{_+_, _*_, _≤_, _<_};
 ghost use lib.ListN.{length};
 ghost use lib.Seq.{sets};
 ghost use Rattle.model.specs.File.{numberCount, firstField, scanned, readFrom, checkFields, fileBytes};
 ghost use Rattle.scan.specs.Answers.{misread, Fits};
 ghost use Rattle.scan.specs.Edges.{Open, pastEdges, EdgesRead, EdgesChecked};
 ghost use Rattle.fields.specs.Valid.{Valid};
+
+// The place of the number of vertices.
+const VERTICES: usize = 67;
+
+// The row of an edge's first number.
+const FROM: usize = 9;
+
+// The place where the second edge starts.
+const SECOND: usize = 327;
 
 fn first_field() -> Field
     ensures { λ r. ⌜ r ≡ firstField ⌝ }
@@ -45,17 +54,17 @@ fn past_edges(c: Field, run: usize) -> Field
     }
 }
 
-// How many edges from the field on, the list's first and last apart, are two single bytes in range that ascend: most of a large file. They are read
-// at once; what ends the run is left to the steps.
+// Most of a large file is edges. Reads at once as many edges from the field on, the list's first and last apart, as are two single bytes in range that
+// ascend, and answers how many. What ends the run is left to the steps.
 fn read_edges(bytes: &[u8], numbers: &mut [u64; 1446], at: usize, field: Field) -> usize
     requires { ⌜ Open field (now numbers) ⌝ }
     ensures { λ r. ⌜ EdgesRead (now (bytes .entry)) at field (now (numbers .entry)) (now (numbers .exit)) r ⌝ }
 {
-    let vertices = numbers[67];
+    let vertices = numbers[VERTICES];
     let first = field.place;
     let left = field.left;
     let mut run: usize = 0;
-    if field.row != 9 || first < 327 || 128 < vertices || bytes.len() <= at {
+    if field.row != FROM || first < SECOND || 128 < vertices || bytes.len() <= at {
         return run;
     }
     while run < left {
@@ -116,11 +125,11 @@ fn check_edges(numbers: &[u64; 1446], field: Field) -> usize
     requires { ⌜ Valid field ⌝ }
     ensures { λ r. ⌜ EdgesChecked field (now (numbers .entry)) r ⌝ }
 {
-    let vertices = numbers[67];
+    let vertices = numbers[VERTICES];
     let first = field.place;
     let left = field.left;
     let mut run: usize = 0;
-    if field.row != 9 || first < 327 || 128 < vertices {
+    if field.row != FROM || first < SECOND || 128 < vertices {
         return run;
     }
     while run < left {
