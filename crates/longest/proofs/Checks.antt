@@ -10,6 +10,7 @@ use Rattle.model.specs.Graph.{edge, loop}
 use Rattle.model.specs.Operations.{Checked}
 use Rattle.model.proofs.Lists.{mem-getD}
 use Rattle.graph.specs.Counts.{Counted, verticesIn, edgesIn, loopsIn}
+use Rattle.graph.proofs.Places.{edge-count}
 use Rattle.file.proofs.Counts as counts
 use Rattle.greatest.proofs.Rules.{Rules, Order}
 use Rattle.greatest.proofs.Graph.{EdgeIn, Ranges, rules, order}
@@ -39,6 +40,9 @@ module _ {l : List ℕ} (ok : Checked l) where
   pub few-vertices : verticesIn l ≤ 128
   few-vertices = omega (arith, vertices-at, counted .vertices)
 
+  pub edges-few : length (edgesIn l) ≤ 512
+  edges-few = omega (arith, edge-count l counted, counted .edges)
+
   module _ (i : ℕ) (below : i < length (loopsIn l)) where
     pub loop-in : List·Memᴰ (loop (loopsIn l) i) (loopsIn l)
     loop-in = mem-getD (loopsIn l) i zeroLoop below
@@ -57,3 +61,6 @@ module _ {l : List ℕ} (ok : Checked l) where
 
   pub from-small : (i : ℕ) → i < length (edgesIn l) → edge (edgesIn l) i .from < 128
   from-small i below = omega (arith, ranges .from _ (mem-getD (edgesIn l) i zeroEdge below), few-vertices)
+
+  pub to-small : (i : ℕ) → i < length (edgesIn l) → edge (edgesIn l) i .to < 128
+  to-small i below = omega (arith, ranges .to _ (mem-getD (edgesIn l) i zeroEdge below), few-vertices)

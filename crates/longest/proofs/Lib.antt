@@ -1,6 +1,8 @@
 pub mod Checks
+pub mod Chains
 pub mod Headers
 pub mod Leaving
+pub mod EdgeChains
 pub mod Offers
 pub mod ThreeNumbers
 pub mod Growth

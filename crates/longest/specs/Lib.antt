@@ -1,3 +1,4 @@
 pub mod Tables
+pub mod Chains
 pub mod Filling
 pub mod Longest

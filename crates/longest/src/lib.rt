@@ -6,8 +6,9 @@ ghost use lib.ListN.{length};
 ghost use Rattle.model.specs.Numbers.{problemOf};
 ghost use Rattle.model.specs.Graph.{loop};
 ghost use Rattle.model.specs.Operations.{Checked};
-ghost use Rattle.graph.specs.Counts.{loopsIn};
-ghost use Rattle.greatest.specs.Numbers.{left};
+ghost use Rattle.graph.specs.Counts.{edgesIn, loopsIn};
+ghost use Rattle.greatest.specs.Numbers.{ends, left};
+ghost use Rattle.longest.specs.Chains.{EdgeChains, Chained};
 ghost use Rattle.longest.specs.Tables.{cap, Capped, Ready, edgeCount, byVertex, byHeader, leaving, comes, offered, bestInto};
 ghost use Rattle.longest.specs.Tables.{visitNumber, entryNumber, turnNumber};
 ghost use Rattle.longest.specs.Filling.{Filling, Before, Since, After, Part, BeginsAt};
@@ -56,6 +57,24 @@ fn loop_bound(l: &[u64; 1446], i: usize) -> u64
     l[1352 + 3 * i]
 }
 
+// The edges as chains by where they lead: place v has one more than the number of the last edge to v, and place 128 + i one more than that of the
+// last edge before edge i to the same vertex. 0 ends a chain.
+fn edge_chains(l: &[u64; 1446]) -> [usize; 640]
+    requires { ⌜ Checked (now l) ⌝ }
+    ensures { λ r. ⌜ EdgeChains (now (l .entry)) r ⌝ }
+{
+    let mut edges = [0usize; 640];
+    let count = graph::edge_count(l);
+    let mut i: usize = 0;
+    while i < count {
+        let to = graph::edge_to(l, i);
+        edges[128 + i] = edges[to];
+        edges[to] = i + 1;
+        i += 1;
+    }
+    edges
+}
+
 // What loop i adds to an edge from u to v that leaves it: entering it, and all its iterations but the last.
 fn left_by(l: &[u64; 1446], e: &[u64; 128], t: &[u64; 128], u: usize, v: usize, i: usize) -> Cycles
     requires { ⌜ Checked (now l) ⌝ ∗ ⌜ Capped (now e) × Capped (now t) ⌝ ∗ ⌜ i < length (loopsIn (now l)) ⌝ }
@@ -98,7 +117,7 @@ fn counts(origin: Origin, u: usize) -> bool
     }
 }
 
-// What edge i brings to v, with `more` for the visit: nothing if it leads elsewhere or does not count.
+// What edge i to v brings, with `more` for the visit: nothing if it does not count.
 fn offer(
     l: &[u64; 1446],
     d: &[u64; 128],
@@ -109,12 +128,9 @@ fn offer(
     origin: Origin,
     i: usize,
 ) -> Cycles
-    requires { ⌜ Ready (now l) (now d) (now e) (now t) ⌝ ∗ ⌜ more .0 ≤ cap ⌝ ∗ ⌜ i < edgeCount (now l) ⌝ }
+    requires { ⌜ Ready (now l) (now d) (now e) (now t) ⌝ ∗ ⌜ more .0 ≤ cap ⌝ ∗ ⌜ i < edgeCount (now l) ⌝ ∗ ⌜ ends (edgesIn (now l)) i ≡ v ⌝ }
     ensures { λ r. ⌜ r .0 ≡ offered (now (l .entry)) (now (d .entry)) (now (e .entry)) (now (t .entry)) v (more .0) origin i ⌝ }
 {
-    if graph::edge_to(l, i) != v {
-        return Cycles(0);
-    }
     let u = graph::edge_from(l, i);
     if counts(origin, u) {
         let before = capped_sum(Cycles(d[u]), leave(l, e, t, u, v));
@@ -126,6 +142,7 @@ fn offer(
 // The greatest number that an edge brings to v.
 fn best_into(
     l: &[u64; 1446],
+    edges: &[usize; 640],
     d: &[u64; 128],
     e: &[u64; 128],
     t: &[u64; 128],
@@ -133,15 +150,15 @@ fn best_into(
     more: Cycles,
     origin: Origin,
 ) -> Cycles
-    requires { ⌜ Ready (now l) (now d) (now e) (now t) ⌝ ∗ ⌜ more .0 ≤ cap ⌝ }
+    requires { ⌜ Chained (now l) (now edges) ⌝ ∗ ⌜ Ready (now l) (now d) (now e) (now t) ⌝ ∗ ⌜ more .0 ≤ cap ⌝ ∗ ⌜ v < 128 ⌝ }
     ensures { λ r. ⌜ r .0 ≡ bestInto (now (l .entry)) (now (d .entry)) (now (e .entry)) (now (t .entry)) v (more .0) origin (edgeCount (now (l .entry))) ⌝ }
 {
-    let count = graph::edge_count(l);
     let mut best = Cycles(0);
-    let mut i: usize = 0;
-    while i < count {
+    let mut next = edges[v];
+    while 0 < next {
+        let i = next - 1;
         best = larger(best, offer(l, d, e, t, v, more, origin, i));
-        i += 1;
+        next = edges[128 + i];
     }
     best
 }
@@ -149,25 +166,33 @@ fn best_into(
 // The number of a vertex that is no header: the greatest charges since the iteration around it began, or since the walk's start.
 fn visit_number(
     l: &[u64; 1446],
+    edges: &[usize; 640],
     charge: &[u64; 128],
     d: &[u64; 128],
     e: &[u64; 128],
     t: &[u64; 128],
     v: usize,
 ) -> Cycles
-    requires { ⌜ Ready (now l) (now d) (now e) (now t) ⌝ ∗ ⌜ Capped (now charge) ⌝ ∗ ⌜ v < 128 ⌝ }
+    requires { ⌜ Chained (now l) (now edges) ⌝ ∗ ⌜ Ready (now l) (now d) (now e) (now t) ⌝ ∗ ⌜ Capped (now charge) ⌝ ∗ ⌜ v < 128 ⌝ }
     ensures { λ r. ⌜ r .0 ≡ visitNumber (now (l .entry)) (now (charge .entry)) (now (d .entry)) (now (e .entry)) (now (t .entry)) v ⌝ }
 {
     let own = Cycles(charge[v]);
     if v == 0 {
         return own;
     }
-    best_into(l, d, e, t, v, own, Origin::Anywhere)
+    best_into(l, edges, d, e, t, v, own, Origin::Anywhere)
 }
 
 // The number of entering loop i: the greatest charges that the iteration around it, or the walk, has by then.
-fn entry_number(l: &[u64; 1446], d: &[u64; 128], e: &[u64; 128], t: &[u64; 128], i: usize) -> Cycles
-    requires { ⌜ Ready (now l) (now d) (now e) (now t) ⌝ ∗ ⌜ i < length (loopsIn (now l)) ⌝ }
+fn entry_number(
+    l: &[u64; 1446],
+    edges: &[usize; 640],
+    d: &[u64; 128],
+    e: &[u64; 128],
+    t: &[u64; 128],
+    i: usize,
+) -> Cycles
+    requires { ⌜ Chained (now l) (now edges) ⌝ ∗ ⌜ Ready (now l) (now d) (now e) (now t) ⌝ ∗ ⌜ i < length (loopsIn (now l)) ⌝ }
     ensures { λ r. ⌜ r .0 ≡ entryNumber (now (l .entry)) (now (d .entry)) (now (e .entry)) (now (t .entry)) (loop (loopsIn (now (l .entry))) i) ⌝ }
 {
     let header = graph::loop_header(l, i);
@@ -176,6 +201,7 @@ fn entry_number(l: &[u64; 1446], d: &[u64; 128], e: &[u64; 128], t: &[u64; 128],
     }
     best_into(
         l,
+        edges,
         d,
         e,
         t,
@@ -186,13 +212,21 @@ fn entry_number(l: &[u64; 1446], d: &[u64; 128], e: &[u64; 128], t: &[u64; 128],
 }
 
 // The number of loop i's iteration: the greatest charges from its header until just before the next visit to it.
-fn turn_number(l: &[u64; 1446], d: &[u64; 128], e: &[u64; 128], t: &[u64; 128], i: usize) -> Cycles
-    requires { ⌜ Ready (now l) (now d) (now e) (now t) ⌝ ∗ ⌜ i < length (loopsIn (now l)) ⌝ }
+fn turn_number(
+    l: &[u64; 1446],
+    edges: &[usize; 640],
+    d: &[u64; 128],
+    e: &[u64; 128],
+    t: &[u64; 128],
+    i: usize,
+) -> Cycles
+    requires { ⌜ Chained (now l) (now edges) ⌝ ∗ ⌜ Ready (now l) (now d) (now e) (now t) ⌝ ∗ ⌜ i < length (loopsIn (now l)) ⌝ }
     ensures { λ r. ⌜ r .0 ≡ turnNumber (now (l .entry)) (now (d .entry)) (now (e .entry)) (now (t .entry)) (loop (loopsIn (now (l .entry))) i) ⌝ }
 {
     let header = graph::loop_header(l, i);
     best_into(
         l,
+        edges,
         d,
         e,
         t,
@@ -221,6 +255,7 @@ fn loop_at(l: &[u64; 1446], v: usize) -> usize
 // The numbers of the vertices from `first` to `to`, the latter not counted, and of the loops among them.
 fn range(
     l: &[u64; 1446],
+    edges: &[usize; 640],
     charge: &[u64; 128],
     d: &mut [u64; 128],
     e: &mut [u64; 128],
@@ -228,7 +263,7 @@ fn range(
     first: usize,
     to: usize,
 )
-    requires { ⌜ Part (now l) first to ⌝ ∗ ⌜ Filling (now l) (now charge) (now d) (now e) (now t) first (Since first first) ⌝ }
+    requires { ⌜ Chained (now l) (now edges) ⌝ ∗ ⌜ Part (now l) first to ⌝ ∗ ⌜ Filling (now l) (now charge) (now d) (now e) (now t) first (Since first first) ⌝ }
     ensures { λ _. ⌜ Filling (now (l .entry)) (now (charge .entry)) (now (d .exit)) (now (e .exit)) (now (t .exit)) to (Since first to) ⌝ }
 {
     let count = graph::loop_count(l);
@@ -236,10 +271,10 @@ fn range(
     while v < to {
         let i = loop_at(l, v);
         if i < count {
-            iteration(l, charge, d, e, t, i);
+            iteration(l, edges, charge, d, e, t, i);
             v = graph::loop_last(l, i) + 1;
         } else {
-            let number = visit_number(l, charge, d, e, t, v);
+            let number = visit_number(l, edges, charge, d, e, t, v);
             d[v] = number.0;
             v += 1;
         }
@@ -249,22 +284,23 @@ fn range(
 // The numbers of loop i: of entering it, of the vertices in its range and the loops inside it, and of its iteration, which rests on those.
 fn iteration(
     l: &[u64; 1446],
+    edges: &[usize; 640],
     charge: &[u64; 128],
     d: &mut [u64; 128],
     e: &mut [u64; 128],
     t: &mut [u64; 128],
     i: usize,
 )
-    requires { ⌜ i < length (loopsIn (now l)) ⌝ ∗ ⌜ Filling (now l) (now charge) (now d) (now e) (now t) (loop (loopsIn (now l)) i .header) (Before (loop (loopsIn (now l)) i .header)) ⌝ }
+    requires { ⌜ Chained (now l) (now edges) ⌝ ∗ ⌜ i < length (loopsIn (now l)) ⌝ ∗ ⌜ Filling (now l) (now charge) (now d) (now e) (now t) (loop (loopsIn (now l)) i .header) (Before (loop (loopsIn (now l)) i .header)) ⌝ }
     ensures { λ _. ⌜ Filling (now (l .entry)) (now (charge .entry)) (now (d .exit)) (now (e .exit)) (now (t .exit)) (loop (loopsIn (now (l .entry))) i .last + 1) (After (loop (loopsIn (now (l .entry))) i .header) (loop (loopsIn (now (l .entry))) i .last)) ⌝ }
 {
     let header = graph::loop_header(l, i);
     let last = graph::loop_last(l, i);
-    let entry = entry_number(l, d, e, t, i);
+    let entry = entry_number(l, edges, d, e, t, i);
     e[header] = entry.0;
     d[header] = charge[header];
-    range(l, charge, d, e, t, header + 1, last + 1);
-    let turn = turn_number(l, d, e, t, i);
+    range(l, edges, charge, d, e, t, header + 1, last + 1);
+    let turn = turn_number(l, edges, d, e, t, i);
     t[header] = turn.0;
 }
 
@@ -274,9 +310,10 @@ pub fn greatest_charges(l: &[u64; 1446], charge: &[u64; 128]) -> Cycles
     ensures { λ r. ⌜ Longest (problemOf (now (l .entry))) (byVertex (now (charge .entry))) (r .0) ⌝ }
 {
     let vertices = graph::vertex_count(l);
+    let edges = edge_chains(l);
     let mut d = [0u64; 128];
     let mut e = [0u64; 128];
     let mut t = [0u64; 128];
-    range(l, charge, &mut d, &mut e, &mut t, 0, vertices);
+    range(l, &edges, charge, &mut d, &mut e, &mut t, 0, vertices);
     Cycles(d[vertices - 1])
 }

@@ -25,25 +25,25 @@ use Rattle.longest.proofs.visit_number.Reads as visit-number-reads
 use Rattle.longest.proofs.+iteration+range.{statement}
 use Rattle.longest.proofs.+iteration+range.Tie.{close}
 
-abbrev μ-iteration : Measures 5 iteration-kinds.ps ℕ
+abbrev μ-iteration : Measures 6 iteration-kinds.ps ℕ
 μ-iteration κs a =
-    2 * (loop (loopsIn (a .0 .now)) (a .1 .1 .1 .1 .1 .0) .last + 1 - loop (loopsIn (a .0 .now)) (a .1 .1 .1 .1 .1 .0) .header)
+    2 * (loop (loopsIn (a .0 .now)) (a .1 .1 .1 .1 .1 .1 .0) .last + 1 - loop (loopsIn (a .0 .now)) (a .1 .1 .1 .1 .1 .1 .0) .header)
 
-abbrev μ-range : Measures 5 range-kinds.ps ℕ
-μ-range κs a = 2 * (a .1 .1 .1 .1 .1 .1 .0 - a .1 .1 .1 .1 .1 .0) + 1
+abbrev μ-range : Measures 6 range-kinds.ps ℕ
+μ-range κs a = 2 * (a .1 .1 .1 .1 .1 .1 .1 .0 - a .1 .1 .1 .1 .1 .1 .0) + 1
 
-abbrev iteration-at : ℕ → In 5 iteration-kinds.ps
-iteration-at t = and 5 iteration-kinds.ps (is 5 iteration-kinds.ps μ-iteration t) iteration.Pre
+abbrev iteration-at : ℕ → In 6 iteration-kinds.ps
+iteration-at t = and 6 iteration-kinds.ps (is 6 iteration-kinds.ps μ-iteration t) iteration.Pre
 
-abbrev iteration-below : ℕ → In 5 iteration-kinds.ps
+abbrev iteration-below : ℕ → In 6 iteration-kinds.ps
 iteration-below t =
-    and 5 iteration-kinds.ps (falls 5 iteration-kinds.ps _<_ μ-iteration t) iteration.Pre
+    and 6 iteration-kinds.ps (falls 6 iteration-kinds.ps _<_ μ-iteration t) iteration.Pre
 
-abbrev range-at : ℕ → In 5 range-kinds.ps
-range-at t = and 5 range-kinds.ps (is 5 range-kinds.ps μ-range t) range.Pre
+abbrev range-at : ℕ → In 6 range-kinds.ps
+range-at t = and 6 range-kinds.ps (is 6 range-kinds.ps μ-range t) range.Pre
 
-abbrev range-below : ℕ → In 5 range-kinds.ps
-range-below t = and 5 range-kinds.ps (falls 5 range-kinds.ps _<_ μ-range t) range.Pre
+abbrev range-below : ℕ → In 6 range-kinds.ps
+range-below t = and 6 range-kinds.ps (falls 6 range-kinds.ps _<_ μ-range t) range.Pre
 
 -- What the callees of `iteration` ask and give.
 abbrev iteration-calls : ℕ → iteration-lts.Claims
@@ -76,96 +76,98 @@ range-calls t = (
 )
 
 iteration-loop-header-requires : (t : ℕ) → iteration-lts.Need-loop-header-requires (iteration-calls t) (iteration-at t) iteration.Post
-iteration-loop-header-requires t c κs = (counted (c .pre .1 .1 .ready .checked), c .pre .1 .0)
+iteration-loop-header-requires t c κs = (counted (c .pre .1 .1 .1 .ready .checked), c .pre .1 .1 .0)
 
 iteration-loop-last-requires : (t : ℕ) → iteration-lts.Need-loop-last-requires (iteration-calls t) (iteration-at t) iteration.Post
-iteration-loop-last-requires t c κs = (counted (c .before .pre .1 .1 .ready .checked), c .before .pre .1 .0)
+iteration-loop-last-requires t c κs = (counted (c .before .pre .1 .1 .1 .ready .checked), c .before .pre .1 .1 .0)
 
 iteration-entry-number-requires : (t : ℕ) → iteration-lts.Need-entry-number-requires (iteration-calls t) (iteration-at t) iteration.Post
-iteration-entry-number-requires t c κs = (c .before .before .before .before .before .pre .1 .1 .ready, c .before .before .before .before .before .pre .1 .0)
+iteration-entry-number-requires t c κs = let p = c .before .before .before .before .before .pre .1 in (p .0, (p .1 .1 .ready, p .1 .0))
 
 iteration-mul-e : (t : ℕ) → iteration-lts.Need-mul-e (iteration-calls t) (iteration-at t) iteration.Post
 iteration-mul-e t c =
     let s = c .before .before .before .before .before .before in
-    omega (arith, c .before .before .before .before .before .loop-header .ensures, c .before .before .before .before .loop-last .ensures, small (s .pre .1 .1 .ready .checked) _ (s .pre .1 .0))
+    omega (arith, c .before .before .before .before .before .loop-header .ensures, c .before .before .before .before .loop-last .ensures, small (s .pre .1 .1 .1 .ready .checked) _ (s .pre .1 .1 .0))
 
 iteration-element-write-e : (t : ℕ) → iteration-lts.Need-element-write-e (iteration-calls t) (iteration-at t) iteration.Post
 iteration-element-write-e t c =
     let s = c .before .before .before .before .before .before in
-    omega (arith, c .before .before .before .before .before .loop-header .ensures, c .before .before .before .before .loop-last .ensures, small (s .pre .1 .1 .ready .checked) _ (s .pre .1 .0))
+    omega (arith, c .before .before .before .before .before .loop-header .ensures, c .before .before .before .before .loop-last .ensures, small (s .pre .1 .1 .1 .ready .checked) _ (s .pre .1 .1 .0))
 
 iteration-mul-d : (t : ℕ) → iteration-lts.Need-mul-d (iteration-calls t) (iteration-at t) iteration.Post
 iteration-mul-d t c =
     let s = c .before .before .before .before .before .before in
-    omega (arith, c .before .before .before .before .before .loop-header .ensures, c .before .before .before .before .loop-last .ensures, small (s .pre .1 .1 .ready .checked) _ (s .pre .1 .0))
+    omega (arith, c .before .before .before .before .before .loop-header .ensures, c .before .before .before .before .loop-last .ensures, small (s .pre .1 .1 .1 .ready .checked) _ (s .pre .1 .1 .0))
 
 iteration-element-copy-out-d : (t : ℕ) → iteration-lts.Need-element-copy-out-d (iteration-calls t) (iteration-at t) iteration.Post
 iteration-element-copy-out-d t c =
     let s = c .before .before .before .before .before .before in
-    omega (arith, c .before .before .before .before .before .loop-header .ensures, c .before .before .before .before .loop-last .ensures, small (s .pre .1 .1 .ready .checked) _ (s .pre .1 .0))
+    omega (arith, c .before .before .before .before .before .loop-header .ensures, c .before .before .before .before .loop-last .ensures, small (s .pre .1 .1 .1 .ready .checked) _ (s .pre .1 .1 .0))
 
 iteration-mul-d-2 : (t : ℕ) → iteration-lts.Need-mul-d-2 (iteration-calls t) (iteration-at t) iteration.Post
 iteration-mul-d-2 t c =
     let s = c .before .before .before .before .before .before .before in
-    omega (arith, c .before .before .before .before .before .before .loop-header .ensures, c .before .before .before .before .before .loop-last .ensures, small (s .pre .1 .1 .ready .checked) _ (s .pre .1 .0))
+    omega (arith, c .before .before .before .before .before .before .loop-header .ensures, c .before .before .before .before .before .loop-last .ensures, small (s .pre .1 .1 .1 .ready .checked) _ (s .pre .1 .1 .0))
 
 iteration-element-write-d : (t : ℕ) → iteration-lts.Need-element-write-d (iteration-calls t) (iteration-at t) iteration.Post
 iteration-element-write-d t c =
     let s = c .before .before .before .before .before .before .before in
-    omega (arith, c .before .before .before .before .before .before .loop-header .ensures, c .before .before .before .before .before .loop-last .ensures, small (s .pre .1 .1 .ready .checked) _ (s .pre .1 .0))
+    omega (arith, c .before .before .before .before .before .before .loop-header .ensures, c .before .before .before .before .before .loop-last .ensures, small (s .pre .1 .1 .1 .ready .checked) _ (s .pre .1 .1 .0))
 
 iteration-add-range : (t : ℕ) → iteration-lts.Need-add-range (iteration-calls t) (iteration-at t) iteration.Post
 iteration-add-range t c =
     let s = c .before .before .before .before .before .before .before .before .before .before in
-    omega (arith, c .before .before .before .before .before .before .before .before .before .loop-header .ensures, c .before .before .before .before .before .before .before .before .loop-last .ensures, small (s .pre .1 .1 .ready .checked) _ (s .pre .1 .0))
+    omega (arith, c .before .before .before .before .before .before .before .before .before .loop-header .ensures, c .before .before .before .before .before .before .before .before .loop-last .ensures, small (s .pre .1 .1 .1 .ready .checked) _ (s .pre .1 .1 .0))
 
 iteration-add-range-2 : (t : ℕ) → iteration-lts.Need-add-range-2 (iteration-calls t) (iteration-at t) iteration.Post
 iteration-add-range-2 t c =
     let s = c .before .before .before .before .before .before .before .before .before .before in
-    omega (arith, c .before .before .before .before .before .before .before .before .before .loop-header .ensures, c .before .before .before .before .before .before .before .before .loop-last .ensures, small (s .pre .1 .1 .ready .checked) _ (s .pre .1 .0))
+    omega (arith, c .before .before .before .before .before .before .before .before .before .loop-header .ensures, c .before .before .before .before .before .before .before .before .loop-last .ensures, small (s .pre .1 .1 .1 .ready .checked) _ (s .pre .1 .1 .0))
 
 iteration-range-requires : (t : ℕ) → iteration-lts.Need-range-requires (iteration-calls t) (iteration-at t) iteration.Post
 iteration-range-requires t c κs =
     let s = c .before .before .before .before .before .before .before .before .before .before in
-    let ok = s .pre .1 .1 .ready .checked in
+    let ok = s .pre .1 .1 .1 .ready .checked in
     let at-header = c .before .before .before .before .before .before .before .before .before .loop-header .ensures in
     let at-last = c .before .before .before .before .before .before .before .before .loop-last .ensures in
-    let member = loop-in ok _ (s .pre .1 .0) in
+    let member = loop-in ok _ (s .pre .1 .1 .0) in
     let w = wide ok _ member in (
       omega (arith, s .pre .0),
-      (inside-loop ok _ member at-header at-last, enter-loop _ member at-header (s .pre .1 .1) (c .before .before .before .before .entry-number .ensures)),
+      (s .pre .1 .0, (inside-loop ok _ member at-header at-last, enter-loop _ member at-header (s .pre .1 .1 .1) (c .before .before .before .before .entry-number .ensures))),
     )
 
 iteration-turn-number-requires : (t : ℕ) → iteration-lts.Need-turn-number-requires (iteration-calls t) (iteration-at t) iteration.Post
-iteration-turn-number-requires t c κs = (c .before .before .before .range .ensures .ready, c .before .before .before .before .before .before .before .before .before .before .before .before .before .before .pre .1 .0)
+iteration-turn-number-requires t c κs =
+    let p = c .before .before .before .before .before .before .before .before .before .before .before .before .before .before .pre .1 in
+    (p .0, (c .before .before .before .range .ensures .ready, p .1 .0))
 
 iteration-mul-t : (t : ℕ) → iteration-lts.Need-mul-t (iteration-calls t) (iteration-at t) iteration.Post
 iteration-mul-t t c =
     let s = c .before .before .before .before .before .before .before .before .before .before .before .before .before .before .before in
-    omega (arith, c .before .before .before .before .before .before .before .before .before .before .before .before .before .before .loop-header .ensures, c .before .before .before .before .before .before .before .before .before .before .before .before .before .loop-last .ensures, small (s .pre .1 .1 .ready .checked) _ (s .pre .1 .0))
+    omega (arith, c .before .before .before .before .before .before .before .before .before .before .before .before .before .before .loop-header .ensures, c .before .before .before .before .before .before .before .before .before .before .before .before .before .loop-last .ensures, small (s .pre .1 .1 .1 .ready .checked) _ (s .pre .1 .1 .0))
 
 iteration-element-write-t : (t : ℕ) → iteration-lts.Need-element-write-t (iteration-calls t) (iteration-at t) iteration.Post
 iteration-element-write-t t c =
     let s = c .before .before .before .before .before .before .before .before .before .before .before .before .before .before .before in
-    omega (arith, c .before .before .before .before .before .before .before .before .before .before .before .before .before .before .loop-header .ensures, c .before .before .before .before .before .before .before .before .before .before .before .before .before .loop-last .ensures, small (s .pre .1 .1 .ready .checked) _ (s .pre .1 .0))
+    omega (arith, c .before .before .before .before .before .before .before .before .before .before .before .before .before .before .loop-header .ensures, c .before .before .before .before .before .before .before .before .before .before .before .before .before .loop-last .ensures, small (s .pre .1 .1 .1 .ready .checked) _ (s .pre .1 .1 .0))
 
 iteration-returns : (t : ℕ) → iteration-lts.Need-returns (iteration-calls t) (iteration-at t) iteration.Post
 iteration-returns t c =
     let s = c .before .before .before .before .before .before .before .before .before .before .before .before .before .before .before in
-    end-loop _ (loop-in (s .pre .1 .1 .ready .checked) _ (s .pre .1 .0)) (c .before .before .before .before .before .before .before .before .before .before .before .before .before .before .loop-header .ensures) (c .before .before .before .before .before .before .before .before .before .before .before .before .before .loop-last .ensures)
+    end-loop _ (loop-in (s .pre .1 .1 .1 .ready .checked) _ (s .pre .1 .1 .0)) (c .before .before .before .before .before .before .before .before .before .before .before .before .before .before .loop-header .ensures) (c .before .before .before .before .before .before .before .before .before .before .before .before .before .loop-last .ensures)
     (c .before .before .before .before .range .ensures) (c .turn-number .ensures)
 
 abbrev range-Inv-loop : range-lts.InvT-loop
-range-Inv-loop l charge d₀ e₀ t₀ first to count v₀ d e t v = Partly l charge d e t first to v
+range-Inv-loop l edges charge d₀ e₀ t₀ first to count v₀ d e t v = Partly l charge d e t first to v
 
 abbrev range-μ-loop : range-lts.MeasureT-loop
-range-μ-loop l charge d₀ e₀ t₀ first to count v₀ d e t v = to - v
+range-μ-loop l edges charge d₀ e₀ t₀ first to count v₀ d e t v = to - v
 
 range-loop-count-requires : (t : ℕ) → range-lts.Need-loop-count-requires (range-calls t) (range-at t) range.Post range-Inv-loop range-μ-loop
-range-loop-count-requires t c κs = counted (c .pre .1 .1 .ready .checked)
+range-loop-count-requires t c κs = counted (c .pre .1 .1 .1 .ready .checked)
 
 range-loop-holds : (t : ℕ) → range-lts.Need-loop-holds (range-calls t) (range-at t) range.Post range-Inv-loop range-μ-loop
-range-loop-holds t c = begin (c .before .pre .1 .0) (c .before .pre .1 .1)
+range-loop-holds t c = begin (c .before .pre .1 .1 .0) (c .before .pre .1 .1 .1)
 
 range-loop-at-requires : (t : ℕ) → range-lts.Need-loop-at-requires (range-calls t) (range-at t) range.Post range-Inv-loop range-μ-loop
 range-loop-at-requires t c κs = c .before .loop .inv .filling .ready .checked
@@ -173,14 +175,14 @@ range-loop-at-requires t c κs = c .before .loop .inv .filling .ready .checked
 range-iteration-requires : (t : ℕ) → range-lts.Need-iteration-requires (range-calls t) (range-at t) range.Post range-Inv-loop range-μ-loop
 range-iteration-requires t c κs =
     let s = c .before .before .before .before .before .before .before .before in
-    let part = s .pre .1 .0 in
+    let part = s .pre .1 .1 .0 in
     let so-far = c .before .before .before .before .before .before .loop .inv in
     let more = c .before .before .before .before .before .loop-test .taken in
     let below = rw (c .before .before .before .before .before .before .before .loop-count .ensures) at (c .before .before .before .if1 .taken) in
     let at-header = c .before .before .before .before .loop-at .ensures .found below in
     let member = loop-in (so-far .filling .ready .checked) _ below in (
       omega (arith, s .pre .0, so-far .low, inside-part part so-far more _ member at-header),
-      (below, here-loop part so-far more _ member at-header),
+      (s .pre .1 .0, (below, here-loop part so-far more _ member at-header)),
     )
 
 range-loop-last-requires : (t : ℕ) → range-lts.Need-loop-last-requires (range-calls t) (range-at t) range.Post range-Inv-loop range-μ-loop
@@ -205,37 +207,37 @@ range-loop-again t c =
     let ok = so-far .filling .ready .checked in
     let below = rw (c .before .before .before .before .before .before .before .before .before .loop-count .ensures) at (c .before .before .before .before .before .if1 .taken) in
     let at-header = c .before .before .before .before .before .before .loop-at .ensures .found below in
-    past-loop (c .before .before .before .before .before .before .before .before .before .before .pre .1 .0) so-far (c .before .before .before .before .before .before .before .loop-test .taken) _ (loop-in ok _ below) at-header (c .loop-last .ensures)
+    past-loop (c .before .before .before .before .before .before .before .before .before .before .pre .1 .1 .0) so-far (c .before .before .before .before .before .before .before .loop-test .taken) _ (loop-in ok _ below) at-header (c .loop-last .ensures)
     (c .before .iteration .ensures)
 
 range-visit-number-requires : (t : ℕ) → range-lts.Need-visit-number-requires (range-calls t) (range-at t) range.Post range-Inv-loop range-μ-loop
 range-visit-number-requires t c κs =
     let so-far = c .before .before .before .before .before .before .loop .inv in
     let f = so-far .filling in
-    let v = below-vertices (c .before .before .before .before .before .before .before .before .pre .1 .0) so-far (c .before .before .before .before .before .loop-test .taken) in
-    (f .ready, (f .charges, omega (arith, few-vertices (f .ready .checked))))
+    let v = below-vertices (c .before .before .before .before .before .before .before .before .pre .1 .1 .0) so-far (c .before .before .before .before .before .loop-test .taken) in
+    (c .before .before .before .before .before .before .before .before .pre .1 .0, (f .ready, (f .charges, omega (arith, few-vertices (f .ready .checked)))))
 
 range-mul-d : (t : ℕ) → range-lts.Need-mul-d (range-calls t) (range-at t) range.Post range-Inv-loop range-μ-loop
 range-mul-d t c =
     let so-far = c .before .before .before .before .before .before .before .loop .inv in
-    omega (arith, below-vertices (c .before .before .before .before .before .before .before .before .before .pre .1 .0) so-far (c .before .before .before .before .before .before .loop-test .taken), few-vertices (so-far .filling .ready .checked))
+    omega (arith, below-vertices (c .before .before .before .before .before .before .before .before .before .pre .1 .1 .0) so-far (c .before .before .before .before .before .before .loop-test .taken), few-vertices (so-far .filling .ready .checked))
 
 range-element-write-d : (t : ℕ) → range-lts.Need-element-write-d (range-calls t) (range-at t) range.Post range-Inv-loop range-μ-loop
 range-element-write-d t c =
     let so-far = c .before .before .before .before .before .before .before .loop .inv in
-    omega (arith, below-vertices (c .before .before .before .before .before .before .before .before .before .pre .1 .0) so-far (c .before .before .before .before .before .before .loop-test .taken), few-vertices (so-far .filling .ready .checked))
+    omega (arith, below-vertices (c .before .before .before .before .before .before .before .before .before .pre .1 .1 .0) so-far (c .before .before .before .before .before .before .loop-test .taken), few-vertices (so-far .filling .ready .checked))
 
 range-add-v-2 : (t : ℕ) → range-lts.Need-add-v-2 (range-calls t) (range-at t) range.Post range-Inv-loop range-μ-loop
 range-add-v-2 t c =
     let so-far = c .before .before .before .before .before .before .before .loop .inv in
-    omega (arith, below-vertices (c .before .before .before .before .before .before .before .before .before .pre .1 .0) so-far (c .before .before .before .before .before .before .loop-test .taken), few-vertices (so-far .filling .ready .checked))
+    omega (arith, below-vertices (c .before .before .before .before .before .before .before .before .before .pre .1 .1 .0) so-far (c .before .before .before .before .before .before .loop-test .taken), few-vertices (so-far .filling .ready .checked))
 
 range-loop-less-2 : (t : ℕ) → range-lts.Need-loop-less-2 (range-calls t) (range-at t) range.Post range-Inv-loop range-μ-loop
 range-loop-less-2 t c = omega arith
 
 range-loop-again-2 : (t : ℕ) → range-lts.Need-loop-again-2 (range-calls t) (range-at t) range.Post range-Inv-loop range-μ-loop
 range-loop-again-2 t c =
-    past-visit (c .before .before .before .before .before .before .before .before .before .pre .1 .0) (c .before .before .before .before .before .before .before .loop .inv) (c .before .before .before .before .before .before .loop-test .taken)
+    past-visit (c .before .before .before .before .before .before .before .before .before .pre .1 .1 .0) (c .before .before .before .before .before .before .before .loop .inv) (c .before .before .before .before .before .before .loop-test .taken)
     (c .before .before .before .before .before .loop-at .ensures .none (rw (c .before .before .before .before .before .before .before .before .loop-count .ensures) at (c .before .before .before .before .if1 .left))) (c .visit-number .ensures)
 
 range-returns : (t : ℕ) → range-lts.Need-returns (range-calls t) (range-at t) range.Post range-Inv-loop range-μ-loop

@@ -1,43 +1,60 @@
--- `longest::best_into` keeps the greatest of what the edges so far bring.
-use Prim.Native.Nat.{_≤_, _-_}
-use mathlib.Core.Path.{_≡_}
+-- `longest::best_into` follows the chain of the edges to v, and keeps the greatest of what they bring.
+use Prim.Native.Nat.{_-_}
 use native.Mathlib.Omega.{arith}
 use borrow.Author.Needs.{needs}
-use Rattle.longest.specs.Tables.{edgeCount, bestInto}
-use Rattle.longest.proofs.Checks.{counted}
-use Rattle.longest.proofs.Offers.{best-none, best-more, best-all}
+use Rattle.longest.proofs.Checks.{edges-few}
+use Rattle.longest.proofs.Chains.{link-less}
+use Rattle.longest.proofs.Offers.{Followed, followed-none, followed-more, followed-all}
 use Rattle.longest.proofs.best_into.Statement.{statement}
 use Rattle.longest.proofs.best_into.Tie as tie
 
 abbrev Inv-loop : tie.InvT-loop
-Inv-loop l d e t v more origin count best₀ i₀ best i = (i ≤ edgeCount l) × (best .0 ≡ bestInto l d e t v (more .0) origin i)
+Inv-loop l edges d e t v more origin best₀ next₀ best next = Followed l d e t v (more .0) origin (best .0) next
 
 abbrev μ-loop : tie.MeasureT-loop
-μ-loop l d e t v more origin count best₀ i₀ best i = edgeCount l - i
+μ-loop l edges d e t v more origin best₀ next₀ best next = next
 
-edge-count-requires : tie.Need-edge-count-requires Inv-loop μ-loop
-edge-count-requires c κs = counted (c .pre .0 .checked)
+mul-next : tie.Need-mul-next Inv-loop μ-loop
+mul-next c = omega arith
+
+element-copy-out-next : tie.Need-element-copy-out-next Inv-loop μ-loop
+element-copy-out-next c = omega arith
 
 loop-holds : tie.Need-loop-holds Inv-loop μ-loop
-loop-holds c = (omega arith, best-none _ _ _ _ _ _ _)
+loop-holds c = followed-none _ _ _ _ _ _ _ (c .before .pre .0 .into) (c .before .pre .1 .1 .1)
+
+sub-i : tie.Need-sub-i Inv-loop μ-loop
+sub-i c = omega arith
 
 offer-requires : tie.Need-offer-requires Inv-loop μ-loop
-offer-requires c κs = (c .before .before .before .pre .0, (c .before .before .before .pre .1, omega arith))
+offer-requires c κs =
+    let p = c .before .before .before .pre in
+    let f = c .before .loop .inv in
+    (p .1 .0, (p .1 .1 .0, (omega arith, f .to _ (omega arith))))
 
 larger-requires : tie.Need-larger-requires Inv-loop μ-loop
 larger-requires c κs = search needs
 
-add-i : tie.Need-add-i Inv-loop μ-loop
-add-i c = omega arith
+add-next : tie.Need-add-next Inv-loop μ-loop
+add-next c = omega (arith, edges-few (c .before .before .before .before .before .pre .1 .0 .checked))
+
+mul-next-2 : tie.Need-mul-next-2 Inv-loop μ-loop
+mul-next-2 c = omega (arith, edges-few (c .before .before .before .before .before .pre .1 .0 .checked))
+
+element-copy-out-next-2 : tie.Need-element-copy-out-next-2 Inv-loop μ-loop
+element-copy-out-next-2 c = omega (arith, edges-few (c .before .before .before .before .before .pre .1 .0 .checked))
 
 loop-less : tie.Need-loop-less Inv-loop μ-loop
-loop-less c = omega arith
+loop-less c =
+    omega (arith, link-less (c .before .before .before .before .before .before .pre .0 .into) (c .before .before .before .before .loop .next - 1) (omega arith))
 
 loop-again : tie.Need-loop-again Inv-loop μ-loop
-loop-again c = (omega arith, best-more _ _ _ _ _ _ _ _ (c .before .before .before .loop .inv .1) (c .before .offer .ensures) (c .larger .ensures))
+loop-again c =
+    followed-more _ _ _ _ _ _ _ (c .before .before .before .before .before .before .pre .0 .into) _ (omega arith) (c .before .before .before .before .loop .inv)
+    (c .before .before .offer .ensures) (c .before .larger .ensures)
 
 returns : tie.Need-returns Inv-loop μ-loop
-returns c = best-all _ _ _ _ _ _ _ (c .before .loop .inv .0) (omega arith) (c .before .loop .inv .1)
+returns c = followed-all _ _ _ _ _ _ _ (omega arith) (c .before .loop .inv)
 
 pub best-into-spec : {M : Type 1} → statement M
 best-into-spec =
@@ -45,11 +62,15 @@ best-into-spec =
     (tie.spec
     Inv-loop
     μ-loop
-    edge-count-requires
+    mul-next
+    element-copy-out-next
     loop-holds
+    sub-i
     offer-requires
     larger-requires
-    add-i
+    add-next
+    mul-next-2
+    element-copy-out-next-2
     loop-less
     loop-again
     returns)

@@ -1,21 +1,23 @@
 -- `longest::entry_number` is nothing at vertex 0, and else the greatest of what the edges from outside bring.
-use Rattle.longest.proofs.Checks.{counted}
+use native.Mathlib.Omega.{arith}
+use Rattle.longest.proofs.Checks.{counted, header-small}
 use Rattle.longest.proofs.ThreeNumbers.{entry-first, entry-later}
-use borrow.Author.Needs.{needs}
 use Rattle.longest.proofs.entry_number.Statement.{statement}
 use Rattle.longest.proofs.entry_number.Tie as tie
 
 loop-header-requires : tie.Need-loop-header-requires
-loop-header-requires c κs = (counted (c .pre .0 .checked), c .pre .1)
+loop-header-requires c κs = (counted (c .pre .1 .0 .checked), c .pre .1 .1)
 
 returns : tie.Need-returns
 returns c = entry-first _ _ _ _ _ (c .before .loop-header .ensures) (c .if1 .taken)
 
 loop-last-requires : tie.Need-loop-last-requires
-loop-last-requires c κs = (counted (c .before .before .pre .0 .checked), c .before .before .pre .1)
+loop-last-requires c κs = (counted (c .before .before .pre .1 .0 .checked), c .before .before .pre .1 .1)
 
 best-into-requires : tie.Need-best-into-requires
-best-into-requires c κs = search needs
+best-into-requires c κs =
+    let p = c .before .before .before .pre in
+    (p .0, (p .1 .0, (omega arith, omega (arith, c .before .before .loop-header .ensures, header-small (p .1 .0 .checked) _ (p .1 .1)))))
 
 returns-2 : tie.Need-returns-2
 returns-2 c = entry-later _ _ _ _ _ (c .before .before .before .loop-header .ensures) (c .before .loop-last .ensures) (c .before .before .if1 .left) (c .best-into .ensures)

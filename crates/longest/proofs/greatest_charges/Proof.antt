@@ -10,24 +10,36 @@ use Rattle.longest.proofs.greatest_charges.Tie as tie
 vertex-count-requires : tie.Need-vertex-count-requires
 vertex-count-requires c κs = search needs
 
+edge-chains-requires : tie.Need-edge-chains-requires
+edge-chains-requires c κs = search needs
+
 range-requires : tie.Need-range-requires
 range-requires c κs =
-    let p = c .before .before .before .before .pre in
-    (all-vertices (p .0) (c .before .before .before .vertex-count .ensures), nothing-filled (p .0) (p .1))
+    let p = c .before .before .before .before .before .before .pre in (
+      record { into = c .before .before .before .before .edge-chains .ensures },
+      (all-vertices (p .0) (c .before .before .before .before .before .vertex-count .ensures), nothing-filled (p .0) (p .1)),
+    )
 
-sub-t11 : tie.Need-sub-t11
-sub-t11 c = omega (arith, c .before .before .before .before .vertex-count .ensures, some-vertex (c .before .before .before .before .before .pre .0))
+sub-t14 : tie.Need-sub-t14
+sub-t14 c = omega (arith, c .before .before .before .before .before .before .vertex-count .ensures, some-vertex (c .before .before .before .before .before .before .before .pre .0))
 
-mul-t12 : tie.Need-mul-t12
-mul-t12 c = omega (arith, c .before .before .before .before .vertex-count .ensures, few-vertices (c .before .before .before .before .before .pre .0))
+mul-t15 : tie.Need-mul-t15
+mul-t15 c = omega (arith, c .before .before .before .before .before .before .vertex-count .ensures, few-vertices (c .before .before .before .before .before .before .before .pre .0))
 
-array-read-t15 : tie.Need-array-read-t15
-array-read-t15 c = omega (arith, c .before .before .before .before .vertex-count .ensures, some-vertex (c .before .before .before .before .before .pre .0), few-vertices (c .before .before .before .before .before .pre .0))
+array-read-t18 : tie.Need-array-read-t18
+array-read-t18 c = omega (arith, c .before .before .before .before .before .before .vertex-count .ensures, some-vertex (c .before .before .before .before .before .before .before .pre .0), few-vertices (c .before .before .before .before .before .before .before .pre .0))
 
 returns : tie.Need-returns
-returns c = longest-at-last (c .before .before .before .before .vertex-count .ensures) (c .range .ensures)
+returns c = longest-at-last (c .before .before .before .before .before .before .vertex-count .ensures) (c .range .ensures)
 
 pub greatest-charges-spec : {M : Type 1} → statement M
 greatest-charges-spec =
     tie.close
-    (tie.spec vertex-count-requires range-requires sub-t11 mul-t12 array-read-t15 returns)
+    (tie.spec
+    vertex-count-requires
+    edge-chains-requires
+    range-requires
+    sub-t14
+    mul-t15
+    array-read-t18
+    returns)

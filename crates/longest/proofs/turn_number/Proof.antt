@@ -1,18 +1,20 @@
 -- `longest::turn_number` is the greatest of what the edges from inside bring.
-use Rattle.longest.proofs.Checks.{counted}
+use native.Mathlib.Omega.{arith}
+use Rattle.longest.proofs.Checks.{counted, header-small}
 use Rattle.longest.proofs.ThreeNumbers.{turn-is}
-use borrow.Author.Needs.{needs}
 use Rattle.longest.proofs.turn_number.Statement.{statement}
 use Rattle.longest.proofs.turn_number.Tie as tie
 
 loop-header-requires : tie.Need-loop-header-requires
-loop-header-requires c κs = (counted (c .pre .0 .checked), c .pre .1)
+loop-header-requires c κs = (counted (c .pre .1 .0 .checked), c .pre .1 .1)
 
 loop-last-requires : tie.Need-loop-last-requires
-loop-last-requires c κs = (counted (c .before .pre .0 .checked), c .before .pre .1)
+loop-last-requires c κs = (counted (c .before .pre .1 .0 .checked), c .before .pre .1 .1)
 
 best-into-requires : tie.Need-best-into-requires
-best-into-requires c κs = search needs
+best-into-requires c κs =
+    let p = c .before .before .pre in
+    (p .0, (p .1 .0, (omega arith, omega (arith, c .before .loop-header .ensures, header-small (p .1 .0 .checked) _ (p .1 .1)))))
 
 returns : tie.Need-returns
 returns c = turn-is _ _ _ _ _ (c .before .before .loop-header .ensures) (c .before .loop-last .ensures) (c .best-into .ensures)
