@@ -1,12 +1,12 @@
 -- Laws of chains: what the last number below another that passes a test says, and how a table of chains is filled.
 use Prim.Native.Nat.{ℕ, zero, suc, _+_, _≤_, _<_}
-use mathlib.Core.Path.{_≡_, refl, _∙_}
+use mathlib.Core.Path.{_≡_, refl, sym, _∙_}
 use mathlib.Core.List.{List}
 use mathlib.Core.Bool.{Bool, true, false}
 use native.Mathlib.Omega.{arith}
 use native.Mathlib.Numerals.{add-one}
 use lib.ListN.{getD, replicate, getD-replicate}
-use Rattle.model.proofs.Cases.{by-bool, by-order}
+use Rattle.model.proofs.Cases.{by-bool, by-order, true-not-false}
 use Rattle.longest.specs.Chains.{lastBelow, Chains}
 
 module _ (test : ℕ → Bool) where
@@ -30,6 +30,20 @@ module _ (test : ℕ → Bool) where
   last-skip f zero same = refl
   last-skip f (suc m) same =
       by-bool (test m) (λ e. rw e) (λ e. rw e (same m (omega arith) e ∙ last-skip f m (λ i h. same i (omega arith))))
+
+  -- None that passes is behind it.
+  pub last-least : (m i : ℕ) → i < m → test i ≡ true → i < lastBelow test m
+  unfolding lastBelow
+  last-least zero i h p = absurd (omega arith)
+  last-least (suc m) i h p =
+      by-bool (test m)
+      (λ e. rw e (omega arith))
+      (λ e. rw e (last-least m i (by-order i m (λ less. less) (λ more. let q : i ≡ m = omega arith in true-not-false (sym (rw q at p) ∙ e))) p))
+
+  pub last-same : (other : ℕ → Bool) (m : ℕ) → ((i : ℕ) → i < m → test i ≡ other i) → lastBelow test m ≡ lastBelow other m
+  unfolding lastBelow
+  last-same other zero same = refl
+  last-same other (suc m) same = rw (same m (omega arith), last-same other m (λ i h. same i (omega arith)))
 
 module _ {of : ℕ → ℕ → Bool} {at : ℕ → ℕ} where
   pub no-chains : (size : ℕ) → 128 ≤ size → Chains of at 0 (replicate size 0)

@@ -1,28 +1,30 @@
--- What the search for the loop that begins at a vertex finds.
-use Prim.Native.Nat.{ℕ, _≤_, _<_}
-use mathlib.Core.Path.{_≡_, sym, ap, _∙_}
+-- What the chains of the loops tell of the loop that begins at a vertex.
+use Prim.Native.Nat.{ℕ, suc, _<_}
+use mathlib.Core.Path.{_≡_, ap, _∙_}
 use mathlib.Core.List.{List}
 use native.Mathlib.Omega.{arith}
-use lib.ListN.{length}
-use lib.Dec.{eqb}
-use borrow.Author.Tests.{eqb-false}
-use Rattle.model.specs.declared.Loop.{Loop}
-use Rattle.model.specs.Zero.{zeroLoop}
-use Rattle.model.specs.Graph.{loop}
-use Rattle.model.proofs.Lists.{index-of}
-use Rattle.model.proofs.Search.{Searched, exists-none, none-below}
+use lib.ListN.{length, getD}
+use Rattle.model.specs.Operations.{Checked}
+use Rattle.graph.specs.Counts.{loopsIn}
+use Rattle.longest.specs.Chains.{around, headers, LoopChains}
 use Rattle.longest.specs.Filling.{BeginsAt}
+use Rattle.longest.proofs.Chains.{last-within}
+use Rattle.longest.proofs.Nesting.{begins-last}
 
-module _ (ls : List Loop) (v r : ℕ) where
-  pub begins-here : r < length ls → loop ls r .header ≡ v → BeginsAt ls v r
-  begins-here below e = record { found = λ _. e; none = λ over. absurd (omega arith) }
+module _ (l loops : List ℕ) (v : ℕ) (chains : LoopChains l loops) (inside : v < 128) where
+  -- Loop i is the last that holds v.
+  module _ (i : ℕ) (q : getD loops v 0 ≡ suc i) where
+    pub last-listed : i < length (loopsIn l)
+    last-listed = omega (arith, chains .last v inside, last-within (around l v) (length (loopsIn l)))
 
-  pub begins-nowhere : {i : ℕ} → r ≡ length ls → Searched (length ls) (λ k. eqb (loop ls k .header) v) i → length ls ≤ i → BeginsAt ls v r
-  begins-nowhere is searched over =
-      record {
-        found = λ below. absurd (omega arith);
-        none = λ _ k i q.
-            let (j, h, e) = index-of zeroLoop i in
-            eqb-false (loop ls j .header) v (none-below (length ls) (λ k. eqb (loop ls k .header) v) (sym (exists-none searched over)) j h)
-            (ap (λ (x : Loop). x .header) e ∙ q);
-      }
+    pub begins-here : headers l i ≡ v → BeginsAt (loopsIn l) v i
+    begins-here e = record { found = λ _. e; none = λ over. absurd (omega (arith, last-listed)) }
+
+  begins-nowhere : {r : ℕ} → Checked l → r ≡ length (loopsIn l) → ((i : ℕ) → getD loops v 0 ≡ suc i → headers l i ≡ v → ⊥) → BeginsAt (loopsIn l) v r
+  begins-nowhere ok is other = record { found = λ below. absurd (omega arith); none = λ _. begins-last ok v (chains .last v inside) other }
+
+  pub begins-none : {r : ℕ} → Checked l → r ≡ length (loopsIn l) → getD loops v 0 ≡ 0 → BeginsAt (loopsIn l) v r
+  begins-none ok is z = begins-nowhere ok is (λ i q e. omega arith)
+
+  pub begins-before : {r : ℕ} (i : ℕ) → getD loops v 0 ≡ suc i → Checked l → r ≡ length (loopsIn l) → (headers l i ≡ v → ⊥) → BeginsAt (loopsIn l) v r
+  begins-before i q ok is other = begins-nowhere ok is (λ j p e. let z : i ≡ j = omega arith in other (ap (headers l) z ∙ e))

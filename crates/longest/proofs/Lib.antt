@@ -1,13 +1,15 @@
 pub mod Checks
 pub mod Chains
+pub mod EdgeChains
+pub mod LoopChains
+pub mod Parts
+pub mod Nesting
 pub mod Headers
 pub mod Leaving
-pub mod EdgeChains
 pub mod Offers
 pub mod ThreeNumbers
 pub mod Growth
 pub mod Stores
-pub mod Parts
 pub mod Progress
 pub mod Whole
 pub mod Same

@@ -1,11 +1,12 @@
--- Edges by where they lead, as chains in a table: from the last edge to a vertex back to the first.
-use Prim.Native.Nat.{ℕ, zero, suc, _+_, _<_}
+-- Edges by where they lead and loops by what they hold, as chains in a table: from a vertex's last one back to its first.
+use Prim.Native.Nat.{ℕ, zero, suc, _+_, _≤_, _<_}
 use mathlib.Core.Path.{_≡_}
 use mathlib.Core.List.{List}
 use mathlib.Core.Bool.{Bool, cond}
-use lib.ListN.{getD}
+use lib.ListN.{length, getD}
 use lib.Dec.{eqb}
-use Rattle.graph.specs.Counts.{edgesIn}
+use Rattle.model.specs.Graph.{holds, loop}
+use Rattle.graph.specs.Counts.{edgesIn, loopsIn}
 use Rattle.greatest.specs.Numbers.{ends}
 use Rattle.longest.specs.Tables.{edgeCount}
 
@@ -26,6 +27,23 @@ leads l v i = eqb (ends (edgesIn l) i) v
 abbrev pub EdgeChains : List ℕ → List ℕ → Type 0
 EdgeChains l s = Chains (leads l) (ends (edgesIn l)) (edgeCount l) s
 
+unfoldable pub around : List ℕ → ℕ → ℕ → Bool
+around l v i = holds (loop (loopsIn l) i) v
+
+abbrev pub headers : List ℕ → ℕ → ℕ
+headers l i = loop (loopsIn l) i .header
+
+abbrev pub LoopChains : List ℕ → List ℕ → Type 0
+LoopChains l s = Chains (around l) (headers l) (length (loopsIn l)) s
+
 -- The tables of chains that the functions go by.
-pub record Chained (l edges : List ℕ) : Type 0 where
+pub record Chained (l edges loops : List ℕ) : Type 0 where
   pub into : EdgeChains l edges
+  pub out : LoopChains l loops
+
+-- A table before and after the places from `first` on, up to `end`, are filled.
+pub record Marked (before after : List ℕ) (first end with : ℕ) : Type 0 where
+  pub long : length after ≡ length before
+  pub inside : (v : ℕ) → first ≤ v → v < end → getD after v 0 ≡ with
+  pub below : (v : ℕ) → v < first → getD after v 0 ≡ getD before v 0
+  pub above : (v : ℕ) → end ≤ v → getD after v 0 ≡ getD before v 0

@@ -1,5 +1,5 @@
 -- The numbers of `greatest` as lent tables: by vertex, and for a loop by its header.
-use Prim.Native.Nat.{ℕ, _+_, _≤_, min}
+use Prim.Native.Nat.{ℕ, _+_, _-_, _*_, _≤_, min}
 use mathlib.Core.List.{List}
 use mathlib.Core.Bool.{Bool, true, cond, not, _&&_}
 use lib.ListN.{length, getD}
@@ -36,6 +36,10 @@ byVertex d v = getD d v 0
 
 unfoldable pub byHeader : List ℕ → Loop → ℕ
 byHeader e k = getD e (k .header) 0
+
+-- What a loop adds to an edge that leaves it: entering it, and all its iterations but the last.
+unfoldable pub stay : List ℕ → List ℕ → Loop → ℕ
+stay e t k = byHeader e k + (k .bound - 1) * byHeader t k
 
 -- What the edge from u to v leaves.
 unfoldable pub leaving : List ℕ → List ℕ → List ℕ → ℕ → ℕ → ℕ

@@ -7,9 +7,9 @@ ghost use Rattle.model.specs.Numbers.{problemOf};
 ghost use Rattle.model.specs.Graph.{loop};
 ghost use Rattle.model.specs.Operations.{Checked};
 ghost use Rattle.graph.specs.Counts.{edgesIn, loopsIn};
-ghost use Rattle.greatest.specs.Numbers.{ends, left};
-ghost use Rattle.longest.specs.Chains.{EdgeChains, Chained};
-ghost use Rattle.longest.specs.Tables.{cap, Capped, Ready, edgeCount, byVertex, byHeader, leaving, comes, offered, bestInto};
+ghost use Rattle.greatest.specs.Numbers.{ends};
+ghost use Rattle.longest.specs.Chains.{EdgeChains, LoopChains, Marked, Chained};
+ghost use Rattle.longest.specs.Tables.{cap, Capped, Ready, edgeCount, byVertex, stay, leaving, comes, offered, bestInto};
 ghost use Rattle.longest.specs.Tables.{visitNumber, entryNumber, turnNumber};
 ghost use Rattle.longest.specs.Filling.{Filling, Before, Since, After, Part, BeginsAt};
 ghost use Rattle.longest.specs.Longest.{Longest};
@@ -75,34 +75,67 @@ fn edge_chains(l: &[u64; 1446]) -> [usize; 640]
     edges
 }
 
-// What loop i adds to an edge from u to v that leaves it: entering it, and all its iterations but the last.
-fn left_by(l: &[u64; 1446], e: &[u64; 128], t: &[u64; 128], u: usize, v: usize, i: usize) -> Cycles
-    requires { ⌜ Checked (now l) ⌝ ∗ ⌜ Capped (now e) × Capped (now t) ⌝ ∗ ⌜ i < length (loopsIn (now l)) ⌝ }
-    ensures { λ r. ⌜ r .0 ≡ min cap (left (byHeader (now (e .entry))) (byHeader (now (t .entry))) u v (loop (loopsIn (now (l .entry))) i)) ⌝ }
+fn mark(loops: &mut [usize; 160], first: usize, end: usize, with: usize)
+    requires { ⌜ length (now loops) ≡ 160 ⌝ ∗ ⌜ first ≤ end ⌝ ∗ ⌜ end ≤ 128 ⌝ }
+    ensures { λ _. ⌜ Marked (now (loops .entry)) (now (loops .exit)) first end with ⌝ }
 {
-    let header = graph::loop_header(l, i);
-    let last = graph::loop_last(l, i);
-    if graph::range_holds(header, last, u) {
-        if graph::range_holds(header, last, v) {
-            return Cycles(0);
-        }
-        let turns = capped_product(loop_bound(l, i) - 1, Cycles(t[header]));
-        return capped_sum(Cycles(e[header]), turns);
+    let mut v = first;
+    while v < end {
+        loops[v] = with;
+        v += 1;
     }
-    Cycles(0)
 }
 
-// What the edge from u to v leaves.
-fn leave(l: &[u64; 1446], e: &[u64; 128], t: &[u64; 128], u: usize, v: usize) -> Cycles
-    requires { ⌜ Checked (now l) ⌝ ∗ ⌜ Capped (now e) × Capped (now t) ⌝ }
-    ensures { λ r. ⌜ r .0 ≡ min cap (leaving (now (l .entry)) (now (e .entry)) (now (t .entry)) u v) ⌝ }
+// The loops as chains by what they hold, from the inside out: place v has one more than the number of the last loop that holds v, and place 128 + i
+// one more than that of the last loop before loop i that holds its header.
+fn loop_chains(l: &[u64; 1446]) -> [usize; 160]
+    requires { ⌜ Checked (now l) ⌝ }
+    ensures { λ r. ⌜ LoopChains (now (l .entry)) r ⌝ }
 {
+    let mut loops = [0usize; 160];
     let count = graph::loop_count(l);
-    let mut sum = Cycles(0);
     let mut i: usize = 0;
     while i < count {
-        sum = capped_sum(sum, left_by(l, e, t, u, v, i));
+        let header = graph::loop_header(l, i);
+        let last = graph::loop_last(l, i);
+        loops[128 + i] = loops[header];
+        mark(&mut loops, header, last + 1, i + 1);
         i += 1;
+    }
+    loops
+}
+
+// What loop i adds to an edge that leaves it: entering it, and all its iterations but the last.
+fn stay_in(l: &[u64; 1446], e: &[u64; 128], t: &[u64; 128], i: usize) -> Cycles
+    requires { ⌜ Checked (now l) ⌝ ∗ ⌜ Capped (now e) × Capped (now t) ⌝ ∗ ⌜ i < length (loopsIn (now l)) ⌝ }
+    ensures { λ r. ⌜ r .0 ≡ min cap (stay (now (e .entry)) (now (t .entry)) (loop (loopsIn (now (l .entry))) i)) ⌝ }
+{
+    let header = graph::loop_header(l, i);
+    let turns = capped_product(loop_bound(l, i) - 1, Cycles(t[header]));
+    capped_sum(Cycles(e[header]), turns)
+}
+
+// What the edge from u to v leaves: the loops around u from the inside out, up to the first that holds v, since those around that one hold v too.
+fn leave(
+    l: &[u64; 1446],
+    loops: &[usize; 160],
+    e: &[u64; 128],
+    t: &[u64; 128],
+    u: usize,
+    v: usize,
+) -> Cycles
+    requires { ⌜ Checked (now l) ⌝ ∗ ⌜ LoopChains (now l) (now loops) ⌝ ∗ ⌜ Capped (now e) × Capped (now t) ⌝ ∗ ⌜ u < 128 ⌝ }
+    ensures { λ r. ⌜ r .0 ≡ min cap (leaving (now (l .entry)) (now (e .entry)) (now (t .entry)) u v) ⌝ }
+{
+    let mut sum = Cycles(0);
+    let mut next = loops[u];
+    while 0 < next {
+        let i = next - 1;
+        if graph::range_holds(graph::loop_header(l, i), graph::loop_last(l, i), v) {
+            return sum;
+        }
+        sum = capped_sum(sum, stay_in(l, e, t, i));
+        next = loops[128 + i];
     }
     sum
 }
@@ -120,6 +153,7 @@ fn counts(origin: Origin, u: usize) -> bool
 // What edge i to v brings, with `more` for the visit: nothing if it does not count.
 fn offer(
     l: &[u64; 1446],
+    loops: &[usize; 160],
     d: &[u64; 128],
     e: &[u64; 128],
     t: &[u64; 128],
@@ -128,12 +162,12 @@ fn offer(
     origin: Origin,
     i: usize,
 ) -> Cycles
-    requires { ⌜ Ready (now l) (now d) (now e) (now t) ⌝ ∗ ⌜ more .0 ≤ cap ⌝ ∗ ⌜ i < edgeCount (now l) ⌝ ∗ ⌜ ends (edgesIn (now l)) i ≡ v ⌝ }
+    requires { ⌜ LoopChains (now l) (now loops) ⌝ ∗ ⌜ Ready (now l) (now d) (now e) (now t) ⌝ ∗ ⌜ more .0 ≤ cap ⌝ ∗ ⌜ i < edgeCount (now l) ⌝ ∗ ⌜ ends (edgesIn (now l)) i ≡ v ⌝ }
     ensures { λ r. ⌜ r .0 ≡ offered (now (l .entry)) (now (d .entry)) (now (e .entry)) (now (t .entry)) v (more .0) origin i ⌝ }
 {
     let u = graph::edge_from(l, i);
     if counts(origin, u) {
-        let before = capped_sum(Cycles(d[u]), leave(l, e, t, u, v));
+        let before = capped_sum(Cycles(d[u]), leave(l, loops, e, t, u, v));
         return capped_sum(before, more);
     }
     Cycles(0)
@@ -143,6 +177,7 @@ fn offer(
 fn best_into(
     l: &[u64; 1446],
     edges: &[usize; 640],
+    loops: &[usize; 160],
     d: &[u64; 128],
     e: &[u64; 128],
     t: &[u64; 128],
@@ -150,14 +185,14 @@ fn best_into(
     more: Cycles,
     origin: Origin,
 ) -> Cycles
-    requires { ⌜ Chained (now l) (now edges) ⌝ ∗ ⌜ Ready (now l) (now d) (now e) (now t) ⌝ ∗ ⌜ more .0 ≤ cap ⌝ ∗ ⌜ v < 128 ⌝ }
+    requires { ⌜ Chained (now l) (now edges) (now loops) ⌝ ∗ ⌜ Ready (now l) (now d) (now e) (now t) ⌝ ∗ ⌜ more .0 ≤ cap ⌝ ∗ ⌜ v < 128 ⌝ }
     ensures { λ r. ⌜ r .0 ≡ bestInto (now (l .entry)) (now (d .entry)) (now (e .entry)) (now (t .entry)) v (more .0) origin (edgeCount (now (l .entry))) ⌝ }
 {
     let mut best = Cycles(0);
     let mut next = edges[v];
     while 0 < next {
         let i = next - 1;
-        best = larger(best, offer(l, d, e, t, v, more, origin, i));
+        best = larger(best, offer(l, loops, d, e, t, v, more, origin, i));
         next = edges[128 + i];
     }
     best
@@ -167,32 +202,34 @@ fn best_into(
 fn visit_number(
     l: &[u64; 1446],
     edges: &[usize; 640],
+    loops: &[usize; 160],
     charge: &[u64; 128],
     d: &[u64; 128],
     e: &[u64; 128],
     t: &[u64; 128],
     v: usize,
 ) -> Cycles
-    requires { ⌜ Chained (now l) (now edges) ⌝ ∗ ⌜ Ready (now l) (now d) (now e) (now t) ⌝ ∗ ⌜ Capped (now charge) ⌝ ∗ ⌜ v < 128 ⌝ }
+    requires { ⌜ Chained (now l) (now edges) (now loops) ⌝ ∗ ⌜ Ready (now l) (now d) (now e) (now t) ⌝ ∗ ⌜ Capped (now charge) ⌝ ∗ ⌜ v < 128 ⌝ }
     ensures { λ r. ⌜ r .0 ≡ visitNumber (now (l .entry)) (now (charge .entry)) (now (d .entry)) (now (e .entry)) (now (t .entry)) v ⌝ }
 {
     let own = Cycles(charge[v]);
     if v == 0 {
         return own;
     }
-    best_into(l, edges, d, e, t, v, own, Origin::Anywhere)
+    best_into(l, edges, loops, d, e, t, v, own, Origin::Anywhere)
 }
 
 // The number of entering loop i: the greatest charges that the iteration around it, or the walk, has by then.
 fn entry_number(
     l: &[u64; 1446],
     edges: &[usize; 640],
+    loops: &[usize; 160],
     d: &[u64; 128],
     e: &[u64; 128],
     t: &[u64; 128],
     i: usize,
 ) -> Cycles
-    requires { ⌜ Chained (now l) (now edges) ⌝ ∗ ⌜ Ready (now l) (now d) (now e) (now t) ⌝ ∗ ⌜ i < length (loopsIn (now l)) ⌝ }
+    requires { ⌜ Chained (now l) (now edges) (now loops) ⌝ ∗ ⌜ Ready (now l) (now d) (now e) (now t) ⌝ ∗ ⌜ i < length (loopsIn (now l)) ⌝ }
     ensures { λ r. ⌜ r .0 ≡ entryNumber (now (l .entry)) (now (d .entry)) (now (e .entry)) (now (t .entry)) (loop (loopsIn (now (l .entry))) i) ⌝ }
 {
     let header = graph::loop_header(l, i);
@@ -202,6 +239,7 @@ fn entry_number(
     best_into(
         l,
         edges,
+        loops,
         d,
         e,
         t,
@@ -215,18 +253,20 @@ fn entry_number(
 fn turn_number(
     l: &[u64; 1446],
     edges: &[usize; 640],
+    loops: &[usize; 160],
     d: &[u64; 128],
     e: &[u64; 128],
     t: &[u64; 128],
     i: usize,
 ) -> Cycles
-    requires { ⌜ Chained (now l) (now edges) ⌝ ∗ ⌜ Ready (now l) (now d) (now e) (now t) ⌝ ∗ ⌜ i < length (loopsIn (now l)) ⌝ }
+    requires { ⌜ Chained (now l) (now edges) (now loops) ⌝ ∗ ⌜ Ready (now l) (now d) (now e) (now t) ⌝ ∗ ⌜ i < length (loopsIn (now l)) ⌝ }
     ensures { λ r. ⌜ r .0 ≡ turnNumber (now (l .entry)) (now (d .entry)) (now (e .entry)) (now (t .entry)) (loop (loopsIn (now (l .entry))) i) ⌝ }
 {
     let header = graph::loop_header(l, i);
     best_into(
         l,
         edges,
+        loops,
         d,
         e,
         t,
@@ -236,26 +276,27 @@ fn turn_number(
     )
 }
 
-// The loop that begins at v, or the number of loops if none does.
-fn loop_at(l: &[u64; 1446], v: usize) -> usize
-    requires { ⌜ Checked (now l) ⌝ }
+// The loop that begins at v, or the number of loops if none does. If one does, no later loop holds v.
+fn loop_at(l: &[u64; 1446], loops: &[usize; 160], v: usize) -> usize
+    requires { ⌜ Checked (now l) ⌝ ∗ ⌜ LoopChains (now l) (now loops) ⌝ ∗ ⌜ v < 128 ⌝ }
     ensures { λ r. ⌜ BeginsAt (loopsIn (now (l .entry))) v r ⌝ }
 {
-    let count = graph::loop_count(l);
-    let mut i: usize = 0;
-    while i < count {
-        if graph::loop_header(l, i) == v {
-            return i;
-        }
-        i += 1;
+    let next = loops[v];
+    if next == 0 {
+        return graph::loop_count(l);
     }
-    count
+    let i = next - 1;
+    if graph::loop_header(l, i) == v {
+        return i;
+    }
+    graph::loop_count(l)
 }
 
 // The numbers of the vertices from `first` to `to`, the latter not counted, and of the loops among them.
 fn range(
     l: &[u64; 1446],
     edges: &[usize; 640],
+    loops: &[usize; 160],
     charge: &[u64; 128],
     d: &mut [u64; 128],
     e: &mut [u64; 128],
@@ -263,18 +304,18 @@ fn range(
     first: usize,
     to: usize,
 )
-    requires { ⌜ Chained (now l) (now edges) ⌝ ∗ ⌜ Part (now l) first to ⌝ ∗ ⌜ Filling (now l) (now charge) (now d) (now e) (now t) first (Since first first) ⌝ }
+    requires { ⌜ Chained (now l) (now edges) (now loops) ⌝ ∗ ⌜ Part (now l) first to ⌝ ∗ ⌜ Filling (now l) (now charge) (now d) (now e) (now t) first (Since first first) ⌝ }
     ensures { λ _. ⌜ Filling (now (l .entry)) (now (charge .entry)) (now (d .exit)) (now (e .exit)) (now (t .exit)) to (Since first to) ⌝ }
 {
     let count = graph::loop_count(l);
     let mut v = first;
     while v < to {
-        let i = loop_at(l, v);
+        let i = loop_at(l, loops, v);
         if i < count {
-            iteration(l, edges, charge, d, e, t, i);
+            iteration(l, edges, loops, charge, d, e, t, i);
             v = graph::loop_last(l, i) + 1;
         } else {
-            let number = visit_number(l, edges, charge, d, e, t, v);
+            let number = visit_number(l, edges, loops, charge, d, e, t, v);
             d[v] = number.0;
             v += 1;
         }
@@ -285,22 +326,23 @@ fn range(
 fn iteration(
     l: &[u64; 1446],
     edges: &[usize; 640],
+    loops: &[usize; 160],
     charge: &[u64; 128],
     d: &mut [u64; 128],
     e: &mut [u64; 128],
     t: &mut [u64; 128],
     i: usize,
 )
-    requires { ⌜ Chained (now l) (now edges) ⌝ ∗ ⌜ i < length (loopsIn (now l)) ⌝ ∗ ⌜ Filling (now l) (now charge) (now d) (now e) (now t) (loop (loopsIn (now l)) i .header) (Before (loop (loopsIn (now l)) i .header)) ⌝ }
+    requires { ⌜ Chained (now l) (now edges) (now loops) ⌝ ∗ ⌜ i < length (loopsIn (now l)) ⌝ ∗ ⌜ Filling (now l) (now charge) (now d) (now e) (now t) (loop (loopsIn (now l)) i .header) (Before (loop (loopsIn (now l)) i .header)) ⌝ }
     ensures { λ _. ⌜ Filling (now (l .entry)) (now (charge .entry)) (now (d .exit)) (now (e .exit)) (now (t .exit)) (loop (loopsIn (now (l .entry))) i .last + 1) (After (loop (loopsIn (now (l .entry))) i .header) (loop (loopsIn (now (l .entry))) i .last)) ⌝ }
 {
     let header = graph::loop_header(l, i);
     let last = graph::loop_last(l, i);
-    let entry = entry_number(l, edges, d, e, t, i);
+    let entry = entry_number(l, edges, loops, d, e, t, i);
     e[header] = entry.0;
     d[header] = charge[header];
-    range(l, edges, charge, d, e, t, header + 1, last + 1);
-    let turn = turn_number(l, edges, d, e, t, i);
+    range(l, edges, loops, charge, d, e, t, header + 1, last + 1);
+    let turn = turn_number(l, edges, loops, d, e, t, i);
     t[header] = turn.0;
 }
 
@@ -311,9 +353,20 @@ pub fn greatest_charges(l: &[u64; 1446], charge: &[u64; 128]) -> Cycles
 {
     let vertices = graph::vertex_count(l);
     let edges = edge_chains(l);
+    let loops = loop_chains(l);
     let mut d = [0u64; 128];
     let mut e = [0u64; 128];
     let mut t = [0u64; 128];
-    range(l, &edges, charge, &mut d, &mut e, &mut t, 0, vertices);
+    range(
+        l,
+        &edges,
+        &loops,
+        charge,
+        &mut d,
+        &mut e,
+        &mut t,
+        0,
+        vertices,
+    );
     Cycles(d[vertices - 1])
 }

@@ -25,25 +25,25 @@ use Rattle.longest.proofs.visit_number.Reads as visit-number-reads
 use Rattle.longest.proofs.+iteration+range.{statement}
 use Rattle.longest.proofs.+iteration+range.Tie.{close}
 
-abbrev μ-iteration : Measures 6 iteration-kinds.ps ℕ
+abbrev μ-iteration : Measures 7 iteration-kinds.ps ℕ
 μ-iteration κs a =
-    2 * (loop (loopsIn (a .0 .now)) (a .1 .1 .1 .1 .1 .1 .0) .last + 1 - loop (loopsIn (a .0 .now)) (a .1 .1 .1 .1 .1 .1 .0) .header)
+    2 * (loop (loopsIn (a .0 .now)) (a .1 .1 .1 .1 .1 .1 .1 .0) .last + 1 - loop (loopsIn (a .0 .now)) (a .1 .1 .1 .1 .1 .1 .1 .0) .header)
 
-abbrev μ-range : Measures 6 range-kinds.ps ℕ
-μ-range κs a = 2 * (a .1 .1 .1 .1 .1 .1 .1 .0 - a .1 .1 .1 .1 .1 .1 .0) + 1
+abbrev μ-range : Measures 7 range-kinds.ps ℕ
+μ-range κs a = 2 * (a .1 .1 .1 .1 .1 .1 .1 .1 .0 - a .1 .1 .1 .1 .1 .1 .1 .0) + 1
 
-abbrev iteration-at : ℕ → In 6 iteration-kinds.ps
-iteration-at t = and 6 iteration-kinds.ps (is 6 iteration-kinds.ps μ-iteration t) iteration.Pre
+abbrev iteration-at : ℕ → In 7 iteration-kinds.ps
+iteration-at t = and 7 iteration-kinds.ps (is 7 iteration-kinds.ps μ-iteration t) iteration.Pre
 
-abbrev iteration-below : ℕ → In 6 iteration-kinds.ps
+abbrev iteration-below : ℕ → In 7 iteration-kinds.ps
 iteration-below t =
-    and 6 iteration-kinds.ps (falls 6 iteration-kinds.ps _<_ μ-iteration t) iteration.Pre
+    and 7 iteration-kinds.ps (falls 7 iteration-kinds.ps _<_ μ-iteration t) iteration.Pre
 
-abbrev range-at : ℕ → In 6 range-kinds.ps
-range-at t = and 6 range-kinds.ps (is 6 range-kinds.ps μ-range t) range.Pre
+abbrev range-at : ℕ → In 7 range-kinds.ps
+range-at t = and 7 range-kinds.ps (is 7 range-kinds.ps μ-range t) range.Pre
 
-abbrev range-below : ℕ → In 6 range-kinds.ps
-range-below t = and 6 range-kinds.ps (falls 6 range-kinds.ps _<_ μ-range t) range.Pre
+abbrev range-below : ℕ → In 7 range-kinds.ps
+range-below t = and 7 range-kinds.ps (falls 7 range-kinds.ps _<_ μ-range t) range.Pre
 
 -- What the callees of `iteration` ask and give.
 abbrev iteration-calls : ℕ → iteration-lts.Claims
@@ -158,10 +158,10 @@ iteration-returns t c =
     (c .before .before .before .before .range .ensures) (c .turn-number .ensures)
 
 abbrev range-Inv-loop : range-lts.InvT-loop
-range-Inv-loop l edges charge d₀ e₀ t₀ first to count v₀ d e t v = Partly l charge d e t first to v
+range-Inv-loop l edges loops charge d₀ e₀ t₀ first to count v₀ d e t v = Partly l charge d e t first to v
 
 abbrev range-μ-loop : range-lts.MeasureT-loop
-range-μ-loop l edges charge d₀ e₀ t₀ first to count v₀ d e t v = to - v
+range-μ-loop l edges loops charge d₀ e₀ t₀ first to count v₀ d e t v = to - v
 
 range-loop-count-requires : (t : ℕ) → range-lts.Need-loop-count-requires (range-calls t) (range-at t) range.Post range-Inv-loop range-μ-loop
 range-loop-count-requires t c κs = counted (c .pre .1 .1 .1 .ready .checked)
@@ -170,7 +170,11 @@ range-loop-holds : (t : ℕ) → range-lts.Need-loop-holds (range-calls t) (rang
 range-loop-holds t c = begin (c .before .pre .1 .1 .0) (c .before .pre .1 .1 .1)
 
 range-loop-at-requires : (t : ℕ) → range-lts.Need-loop-at-requires (range-calls t) (range-at t) range.Post range-Inv-loop range-μ-loop
-range-loop-at-requires t c κs = c .before .loop .inv .filling .ready .checked
+range-loop-at-requires t c κs =
+    let p = c .before .before .before .pre .1 in
+    let so-far = c .before .loop .inv in
+    let ok = so-far .filling .ready .checked in
+    (ok, (p .0 .out, omega (arith, below-vertices (p .1 .0) so-far (c .loop-test .taken), few-vertices ok)))
 
 range-iteration-requires : (t : ℕ) → range-lts.Need-iteration-requires (range-calls t) (range-at t) range.Post range-Inv-loop range-μ-loop
 range-iteration-requires t c κs =

@@ -9,10 +9,10 @@ use Rattle.longest.proofs.best_into.Statement.{statement}
 use Rattle.longest.proofs.best_into.Tie as tie
 
 abbrev Inv-loop : tie.InvT-loop
-Inv-loop l edges d e t v more origin best₀ next₀ best next = Followed l d e t v (more .0) origin (best .0) next
+Inv-loop l edges loops d e t v more origin best₀ next₀ best next = Followed l d e t v (more .0) origin (best .0) next
 
 abbrev μ-loop : tie.MeasureT-loop
-μ-loop l edges d e t v more origin best₀ next₀ best next = next
+μ-loop l edges loops d e t v more origin best₀ next₀ best next = next
 
 mul-next : tie.Need-mul-next Inv-loop μ-loop
 mul-next c = omega arith
@@ -30,7 +30,7 @@ offer-requires : tie.Need-offer-requires Inv-loop μ-loop
 offer-requires c κs =
     let p = c .before .before .before .pre in
     let f = c .before .loop .inv in
-    (p .1 .0, (p .1 .1 .0, (omega arith, f .to _ (omega arith))))
+    (p .0 .out, (p .1 .0, (p .1 .1 .0, (omega arith, f .to _ (omega arith)))))
 
 larger-requires : tie.Need-larger-requires Inv-loop μ-loop
 larger-requires c κs = search needs

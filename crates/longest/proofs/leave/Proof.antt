@@ -1,45 +1,70 @@
--- `longest::leave` adds up what the edge leaves, loop by loop.
-use Prim.Native.Nat.{_≤_, _-_, min}
-use mathlib.Core.Path.{_≡_}
+-- `longest::leave` follows the chain of the loops around u, and adds up those that do not hold v.
+use Prim.Native.Nat.{_-_}
 use native.Mathlib.Omega.{arith}
-use lib.ListN.{length}
-use Rattle.graph.specs.Counts.{loopsIn}
-use Rattle.longest.specs.Tables.{cap}
-use Rattle.longest.proofs.Checks.{counted}
-use Rattle.longest.proofs.Leaving.{leftSoFar, left-none, left-more, left-all}
+use Rattle.longest.proofs.Checks.{counted, loops-few}
+use Rattle.longest.proofs.Chains.{link-less}
+use Rattle.longest.proofs.Leaving.{Left, left-start, left-stop, left-more, left-all}
+use borrow.Author.Needs.{needs}
 use Rattle.longest.proofs.leave.Statement.{statement}
 use Rattle.longest.proofs.leave.Tie as tie
 
 abbrev Inv-loop : tie.InvT-loop
-Inv-loop l e t u v count sum₀ i₀ sum i = (i ≤ length (loopsIn l)) × (sum .0 ≡ min cap (leftSoFar l e t u v i))
+Inv-loop l loops e t u v sum₀ next₀ sum next = Left l e t u v (sum .0) next
 
 abbrev μ-loop : tie.MeasureT-loop
-μ-loop l e t u v count sum₀ i₀ sum i = length (loopsIn l) - i
+μ-loop l loops e t u v sum₀ next₀ sum next = next
 
-loop-count-requires : tie.Need-loop-count-requires Inv-loop μ-loop
-loop-count-requires c κs = counted (c .pre .0)
+mul-next : tie.Need-mul-next Inv-loop μ-loop
+mul-next c = omega arith
+
+element-copy-out-next : tie.Need-element-copy-out-next Inv-loop μ-loop
+element-copy-out-next c = omega arith
 
 loop-holds : tie.Need-loop-holds Inv-loop μ-loop
-loop-holds c = (omega arith, left-none _ _ _ _ _)
+loop-holds c = left-start _ _ _ _ _ (c .before .pre .1 .0) (c .before .pre .1 .1 .1)
 
-left-by-requires : tie.Need-left-by-requires Inv-loop μ-loop
-left-by-requires c κs = (c .before .before .before .pre .0, (c .before .before .before .pre .1, omega arith))
+sub-i : tie.Need-sub-i Inv-loop μ-loop
+sub-i c = omega arith
+
+loop-header-requires : tie.Need-loop-header-requires Inv-loop μ-loop
+loop-header-requires c κs = (counted (c .before .before .before .pre .0), omega arith)
+
+loop-last-requires : tie.Need-loop-last-requires Inv-loop μ-loop
+loop-last-requires c κs = (counted (c .before .before .before .before .pre .0), omega arith)
+
+range-holds-requires : tie.Need-range-holds-requires Inv-loop μ-loop
+range-holds-requires c κs = search needs
+
+returns : tie.Need-returns Inv-loop μ-loop
+returns c =
+    left-stop _ _ _ _ _ (c .before .before .before .before .before .before .before .pre .0) _ (omega arith) (c .before .before .before .before .before .loop .inv) (c .before .before .before .loop-header .ensures) (c .before .before .loop-last .ensures)
+    (c .before .range-holds .ensures) (c .if1 .taken)
+
+stay-in-requires : tie.Need-stay-in-requires Inv-loop μ-loop
+stay-in-requires c κs = (c .before .before .before .before .before .before .before .pre .0, (c .before .before .before .before .before .before .before .pre .1 .1 .0, omega arith))
 
 capped-sum-requires : tie.Need-capped-sum-requires Inv-loop μ-loop
 capped-sum-requires c κs = (omega arith, omega arith)
 
-add-i : tie.Need-add-i Inv-loop μ-loop
-add-i c = omega arith
+add-next : tie.Need-add-next Inv-loop μ-loop
+add-next c = omega (arith, loops-few (c .before .before .before .before .before .before .before .before .before .pre .0))
+
+mul-next-2 : tie.Need-mul-next-2 Inv-loop μ-loop
+mul-next-2 c = omega (arith, loops-few (c .before .before .before .before .before .before .before .before .before .pre .0))
+
+element-copy-out-next-2 : tie.Need-element-copy-out-next-2 Inv-loop μ-loop
+element-copy-out-next-2 c = omega (arith, loops-few (c .before .before .before .before .before .before .before .before .before .pre .0))
 
 loop-less : tie.Need-loop-less Inv-loop μ-loop
-loop-less c = omega arith
+loop-less c = omega (arith, link-less (c .before .before .before .before .before .before .before .before .before .before .pre .1 .0) (c .before .before .before .before .before .before .before .before .loop .next - 1) (omega arith))
 
 loop-again : tie.Need-loop-again Inv-loop μ-loop
 loop-again c =
-    (omega arith, left-more _ _ _ _ _ (omega arith) (c .before .before .before .loop .inv .1) (c .before .left-by .ensures) (c .capped-sum .ensures))
+    left-more _ _ _ _ _ (c .before .before .before .before .before .before .before .before .before .before .pre .0) _ (omega arith) (c .before .before .before .before .before .before .before .before .loop .inv) (c .before .before .before .before .before .before .loop-header .ensures) (c .before .before .before .before .before .loop-last .ensures)
+    (c .before .before .before .before .range-holds .ensures) (c .before .before .before .before .before .before .before .before .before .before .pre .1 .0) (c .before .before .before .if1 .left) (c .before .before .stay-in .ensures) (c .before .capped-sum .ensures)
 
-returns : tie.Need-returns Inv-loop μ-loop
-returns c = left-all _ _ _ _ _ (omega arith) (c .before .loop .inv .1)
+returns-2 : tie.Need-returns-2 Inv-loop μ-loop
+returns-2 c = left-all _ _ _ _ _ (omega arith) (c .before .loop .inv)
 
 pub leave-spec : {M : Type 1} → statement M
 leave-spec =
@@ -47,11 +72,19 @@ leave-spec =
     (tie.spec
     Inv-loop
     μ-loop
-    loop-count-requires
+    mul-next
+    element-copy-out-next
     loop-holds
-    left-by-requires
+    sub-i
+    loop-header-requires
+    loop-last-requires
+    range-holds-requires
+    returns
+    stay-in-requires
     capped-sum-requires
-    add-i
+    add-next
+    mul-next-2
+    element-copy-out-next-2
     loop-less
     loop-again
-    returns)
+    returns-2)

@@ -1,60 +1,51 @@
--- `longest::loop_at` answers what the search among the loops finds.
-use Prim.Native.Nat.{_-_}
+-- `longest::loop_at` looks whether the last loop that holds v begins there.
 use mathlib.Core.Path.{sym, _∙_}
 use native.Mathlib.Omega.{arith}
-use lib.ListN.{length}
-use lib.Dec.{eqb}
-use borrow.Author.Tests.{ne-eqb}
-use Rattle.model.specs.Graph.{loop}
-use Rattle.graph.specs.Counts.{loopsIn}
-use Rattle.model.proofs.Search.{Searched, start, miss}
 use Rattle.longest.proofs.Checks.{counted}
-use Rattle.longest.proofs.Headers.{begins-here, begins-nowhere}
+use Rattle.longest.proofs.Headers.{last-listed, begins-here, begins-none, begins-before}
+use borrow.Author.Needs.{needs}
 use Rattle.longest.proofs.loop_at.Statement.{statement}
 use Rattle.longest.proofs.loop_at.Tie as tie
 
-abbrev Inv-loop : tie.InvT-loop
-Inv-loop l v count i₀ i = Searched (length (loopsIn l)) (λ k. eqb (loop (loopsIn l) k .header) v) i
+mul-next : tie.Need-mul-next
+mul-next c = search needs
 
-abbrev μ-loop : tie.MeasureT-loop
-μ-loop l v count i₀ i = length (loopsIn l) - i
+element-copy-out-next : tie.Need-element-copy-out-next
+element-copy-out-next c = search needs
 
-loop-count-requires : tie.Need-loop-count-requires Inv-loop μ-loop
-loop-count-requires c κs = counted (c .pre)
+loop-count-requires : tie.Need-loop-count-requires
+loop-count-requires c κs = counted (c .before .before .pre .0)
 
-loop-holds : tie.Need-loop-holds Inv-loop μ-loop
-loop-holds c = start _ _
+returns : tie.Need-returns
+returns c = let p = c .before .before .before .pre in begins-none _ _ _ (p .1 .0) (p .1 .1) (p .0) (c .loop-count .ensures) (c .before .if1 .taken)
 
-loop-header-requires : tie.Need-loop-header-requires Inv-loop μ-loop
-loop-header-requires c κs = (counted (c .before .before .before .pre), omega arith)
+sub-i : tie.Need-sub-i
+sub-i c = search needs
 
-returns : tie.Need-returns Inv-loop μ-loop
-returns c = begins-here _ _ _ (omega arith) (sym (c .before .loop-header .ensures) ∙ c .if1 .taken)
+loop-header-requires : tie.Need-loop-header-requires
+loop-header-requires c κs = let p = c .before .before .pre in (counted (p .0), last-listed _ _ _ (p .1 .0) (p .1 .1) _ (omega arith))
 
-add-i : tie.Need-add-i Inv-loop μ-loop
-add-i c = omega arith
+returns-2 : tie.Need-returns-2
+returns-2 c = let p = c .before .before .before .before .pre in begins-here _ _ _ (p .1 .0) (p .1 .1) _ (omega arith) (sym (c .before .loop-header .ensures) ∙ c .if2 .taken)
 
-loop-less : tie.Need-loop-less Inv-loop μ-loop
-loop-less c = omega arith
+loop-count-requires-2 : tie.Need-loop-count-requires-2
+loop-count-requires-2 c κs = counted (c .before .before .before .before .pre .0)
 
-loop-again : tie.Need-loop-again Inv-loop μ-loop
-loop-again c =
-    miss (c .before .before .before .loop .inv) (omega arith) (ne-eqb _ _ (λ q. c .if1 .left (c .before .loop-header .ensures ∙ q)))
-
-returns-2 : tie.Need-returns-2 Inv-loop μ-loop
-returns-2 c = begins-nowhere _ _ _ (omega arith) (c .before .loop .inv) (omega arith)
+returns-3 : tie.Need-returns-3
+returns-3 c =
+    let p = c .before .before .before .before .before .pre in
+    begins-before _ _ _ (p .1 .0) (p .1 .1) _ (omega arith) (p .0) (c .loop-count2 .ensures) (λ e. c .before .if2 .left (c .before .before .loop-header .ensures ∙ e))
 
 pub loop-at-spec : {M : Type 1} → statement M
 loop-at-spec =
     tie.close
     (tie.spec
-    Inv-loop
-    μ-loop
+    mul-next
+    element-copy-out-next
     loop-count-requires
-    loop-holds
-    loop-header-requires
     returns
-    add-i
-    loop-less
-    loop-again
-    returns-2)
+    sub-i
+    loop-header-requires
+    returns-2
+    loop-count-requires-2
+    returns-3)
