@@ -1,5 +1,5 @@
 -- What an edge leaves, loop by loop, in numbers that are kept up to the cap.
-use Prim.Native.Nat.{ℕ, zero, suc, _+_, _-_, _*_, _≤_, _<_, min}
+use Prim.Native.Nat.{ℕ, zero, suc, _+_, _≤_, _<_, min}
 use mathlib.Core.Path.{_≡_, refl, sym, _∙_}
 use mathlib.Core.List.{List}
 use mathlib.Core.Bool.{Bool, true, false}
@@ -12,68 +12,60 @@ use Rattle.model.specs.Operations.{Checked}
 use Rattle.model.proofs.Cases.{by-bool, by-order}
 use Rattle.graph.specs.Counts.{loopsIn}
 use Rattle.graph.specs.Plain.{rangeOf}
-use Rattle.greatest.specs.Numbers.{sum, left, leave}
+use Rattle.greatest.specs.Numbers.{sum}
 use Rattle.greatest.proofs.Sums.{sum-take}
-use Rattle.longest.specs.Tables.{cap, byHeader, stay, leaving}
+use Rattle.longest.specs.Tables.{cap, byHeader, leftOf, leaving}
 use Rattle.longest.specs.Chains.{lastBelow, around, headers, LoopChains}
 use Rattle.longest.proofs.Chains.{last-within, last-passes, last-skip}
 use Rattle.longest.proofs.Nesting.{holds-too, chain-on}
 
--- What loop k adds, its header given by a number.
-pub stay-is : (e t : List ℕ) (k : Loop) {header bound turns r : ℕ} → header ≡ k .header → bound ≡ k .bound → turns ≡ min cap ((bound - 1) * getD t header 0)
-    → r ≡ min cap (getD e header 0 + turns) → r ≡ min cap (stay e t k)
-unfolding stay byHeader
-stay-is e t k {turns = turns} {r = r} at-header at-bound product total =
-    let p : turns ≡ min cap ((k .bound - 1) * getD t (k .header) 0) = rw (at-bound, at-header) at product in
-    let q : r ≡ min cap (getD e (k .header) 0 + turns) = rw at-header at total in
-    omega arith
-
-module _ (e t : List ℕ) (u v : ℕ) (k : Loop) where
-  left-outside : holds k u ≡ false → left (byHeader e) (byHeader t) u v k ≡ 0
-  unfolding left
+module _ (w : List ℕ) (u v : ℕ) (k : Loop) where
+  left-outside : holds k u ≡ false → leftOf w u v k ≡ 0
+  unfolding leftOf
   left-outside out = rw out
 
-  left-within : holds k u ≡ true → holds k v ≡ true → left (byHeader e) (byHeader t) u v k ≡ 0
-  unfolding left
+  left-within : holds k u ≡ true → holds k v ≡ true → leftOf w u v k ≡ 0
+  unfolding leftOf
   left-within in-u in-v = rw (in-u, in-v)
 
-  left-behind : holds k u ≡ true → holds k v ≡ false → left (byHeader e) (byHeader t) u v k ≡ stay e t k
-  unfolding left stay
-  left-behind in-u out = rw (in-u, out)
+  -- It is left, its header given by a number.
+  left-behind : {header : ℕ} → header ≡ k .header → holds k u ≡ true → holds k v ≡ false → leftOf w u v k ≡ getD w header 0
+  unfolding leftOf byHeader
+  left-behind at-header in-u out = rw (in-u, out, at-header)
 
-module _ (l e t : List ℕ) (u v : ℕ) where
+module _ (l w : List ℕ) (u v : ℕ) where
   -- What the edge from u to v leaves of the first i loops.
   unfoldable pub leftSoFar : ℕ → ℕ
-  leftSoFar i = sum (left (byHeader e) (byHeader t) u v) (take i (loopsIn l))
+  leftSoFar i = sum (leftOf w u v) (take i (loopsIn l))
 
   left-none : leftSoFar 0 ≡ 0
   unfolding leftSoFar sum
   left-none = refl
 
-  left-next : (i : ℕ) → i < length (loopsIn l) → leftSoFar (suc i) ≡ leftSoFar i + left (byHeader e) (byHeader t) u v (loop (loopsIn l) i)
+  left-next : (i : ℕ) → i < length (loopsIn l) → leftSoFar (suc i) ≡ leftSoFar i + leftOf w u v (loop (loopsIn l) i)
   unfolding leftSoFar
-  left-next i below = sum-take (left (byHeader e) (byHeader t) u v) (loopsIn l) i below
+  left-next i below = sum-take (leftOf w u v) (loopsIn l) i below
 
-  left-of-all : leftSoFar (length (loopsIn l)) ≡ leaving l e t u v
-  unfolding leftSoFar leaving leave
+  left-of-all : leftSoFar (length (loopsIn l)) ≡ leaving l w u v
+  unfolding leftSoFar leaving
   left-of-all = rw (take-all (length (loopsIn l)) (loopsIn l) (omega arith))
 
   -- Loops that do not hold u add nothing, so that only those in the chain count.
   left-last : (m : ℕ) → m ≤ length (loopsIn l) → leftSoFar m ≡ leftSoFar (lastBelow (around l u) m)
   unfolding around
   left-last m inside =
-      last-skip (around l u) leftSoFar m (λ i h out. omega (arith, left-next i (omega arith), left-outside e t u v (loop (loopsIn l) i) out))
+      last-skip (around l u) leftSoFar m (λ i h out. omega (arith, left-next i (omega arith), left-outside w u v (loop (loopsIn l) i) out))
 
   -- The chain of u is followed down to `next`: what is left so far, and what the loops from there on add.
   pub record Left (so-far next : ℕ) : Type 0 where
     pub within : next ≤ length (loopsIn l)
     pub holding : (i : ℕ) → next ≡ suc i → holds (loop (loopsIn l) i) u ≡ true
     pub most : so-far ≤ cap
-    pub rest : min cap (so-far + leftSoFar next) ≡ min cap (leaving l e t u v)
+    pub rest : min cap (so-far + leftSoFar next) ≡ min cap (leaving l w u v)
 
   -- The chain goes on at the last loop that holds u among the first m.
   on-at-last : {so-far next m : ℕ} → m ≤ length (loopsIn l) → next ≡ lastBelow (around l u) m → so-far ≤ cap
-      → min cap (so-far + leftSoFar m) ≡ min cap (leaving l e t u v) → Left so-far next
+      → min cap (so-far + leftSoFar m) ≡ min cap (leaving l w u v) → Left so-far next
   unfolding around
   on-at-last {m = m} inside is most rest =
       record {
@@ -86,7 +78,7 @@ module _ (l e t : List ℕ) (u v : ℕ) where
   pub left-start : {loops : List ℕ} → LoopChains l loops → u < 128 → Left 0 (getD loops u 0)
   left-start chains inside = on-at-last (omega arith) (chains .last u inside) (omega arith) (omega (arith, left-of-all))
 
-  pub left-all : {so-far next : ℕ} → next ≤ 0 → Left so-far next → so-far ≡ min cap (leaving l e t u v)
+  pub left-all : {so-far next : ℕ} → next ≤ 0 → Left so-far next → so-far ≡ min cap (leaving l w u v)
   left-all {so-far} {next} over f = let q : next ≡ 0 = omega arith in omega (arith, left-none, rw q at (f .rest), f .most)
 
   -- At loop i of the chain, its range given by numbers.
@@ -103,20 +95,20 @@ module _ (l e t : List ℕ) (u v : ℕ) where
     none-from in-v zero h = left-none
     none-from in-v (suc j) h = omega (arith, left-next j (omega (arith, below)), none-from in-v j (omega arith), nothing)
       where
-        nothing : left (byHeader e) (byHeader t) u v (loop (loopsIn l) j) ≡ 0
+        nothing : leftOf w u v (loop (loopsIn l) j) ≡ 0
         nothing =
             by-bool (holds (loop (loopsIn l) j) u)
             (λ g.
-            left-within e t u v (loop (loopsIn l) j) g
+            left-within w u v (loop (loopsIn l) j) g
             (by-order j i (λ less. holds-too ok i j u below less (f .holding i q) v u (f .holding i q) g in-v) (λ more. let z : j ≡ i = omega arith in rw z in-v)))
-            (λ g. left-outside e t u v (loop (loopsIn l) j) g)
+            (λ g. left-outside w u v (loop (loopsIn l) j) g)
 
-    pub left-stop : in-v ≡ true → so-far ≡ min cap (leaving l e t u v)
+    pub left-stop : in-v ≡ true → so-far ≡ min cap (leaving l w u v)
     left-stop is = omega (arith, none-from (v-held is) (suc i) (omega arith), rw q at (f .rest), f .most)
 
     -- It is left, and the chain goes on.
-    pub left-more : {loops : List ℕ} {more now : ℕ} → LoopChains l loops → in-v ≡ false → more ≡ min cap (stay e t (loop (loopsIn l) i))
-        → now ≡ min cap (so-far + more) → Left now (getD loops (128 + i) 0)
-    left-more chains is p r =
+    pub left-more : {loops : List ℕ} {now : ℕ} → LoopChains l loops → in-v ≡ false → now ≡ min cap (so-far + getD w header 0)
+        → Left now (getD loops (128 + i) 0)
+    left-more chains is r =
         on-at-last (omega (arith, below)) (chains .link i below ∙ chain-on ok i u below (f .holding i q)) (omega arith)
-        (omega (arith, left-next i below, left-behind e t u v (loop (loopsIn l) i) (f .holding i q) (v-held is), rw q at (f .rest)))
+        (omega (arith, left-next i below, left-behind w u v (loop (loopsIn l) i) at-header (f .holding i q) (v-held is), rw q at (f .rest)))

@@ -15,40 +15,40 @@ use Rattle.longest.specs.Tables.{cap, edgeCount, byVertex, leaving, come
 use Rattle.longest.specs.Chains.{lastBelow, leads, EdgeChains}
 use Rattle.longest.proofs.Chains.{last-within, last-passes, last-skip}
 
-module _ (l d e t : List ℕ) (v more : ℕ) (origin : Origin) where
+module _ (l d w : List ℕ) (v more : ℕ) (origin : Origin) where
   -- Edge i to v, its start given by a number.
   module _ (i : ℕ) {from : ℕ} (same : ends (edgesIn l) i ≡ v) (at-from : from ≡ starts (edgesIn l) i) where
-    pub offered-not : {answer : Bool} → answer ≡ comes origin from → answer ≡ false → 0 ≡ offered l d e t v more origin i
+    pub offered-not : {answer : Bool} → answer ≡ comes origin from → answer ≡ false → 0 ≡ offered l d w v more origin i
     unfolding offered
     offered-not told is = rw (← at-from, ← told, is, and-false)
 
     pub offered-brought : {answer : Bool} {left before r : ℕ} → answer ≡ comes origin from → answer ≡ true
-        → left ≡ min cap (leaving l e t from v) → before ≡ min cap (getD d from 0 + left) → r ≡ min cap (before + more)
-        → r ≡ offered l d e t v more origin i
+        → left ≡ min cap (leaving l w from v) → before ≡ min cap (getD d from 0 + left) → r ≡ min cap (before + more)
+        → r ≡ offered l d w v more origin i
     unfolding offered brought byVertex
     offered-brought told is p q s = rw (eq-eqb (ends (edgesIn l) i) v same, ← at-from, ← told, is) (omega arith)
 
-  best-more : (i : ℕ) → bestInto l d e t v more origin (suc i) ≡ max (bestInto l d e t v more origin i) (offered l d e t v more origin i)
+  best-more : (i : ℕ) → bestInto l d w v more origin (suc i) ≡ max (bestInto l d w v more origin i) (offered l d w v more origin i)
   unfolding bestInto best offered
   best-more i = refl
 
   -- Edges to other vertices bring nothing, so that only those in the chain count.
-  best-elsewhere : (i : ℕ) → leads l v i ≡ false → bestInto l d e t v more origin (suc i) ≡ bestInto l d e t v more origin i
+  best-elsewhere : (i : ℕ) → leads l v i ≡ false → bestInto l d w v more origin (suc i) ≡ bestInto l d w v more origin i
   unfolding bestInto best leads
   best-elsewhere i other = rw other (omega arith)
 
-  best-last : (m : ℕ) → bestInto l d e t v more origin m ≡ bestInto l d e t v more origin (lastBelow (leads l v) m)
-  best-last m = last-skip (leads l v) (bestInto l d e t v more origin) m (λ i h other. best-elsewhere i other)
+  best-last : (m : ℕ) → bestInto l d w v more origin m ≡ bestInto l d w v more origin (lastBelow (leads l v) m)
+  best-last m = last-skip (leads l v) (bestInto l d w v more origin) m (λ i h other. best-elsewhere i other)
 
   -- The chain of v is followed down to `next`: the greatest so far, and what the edges from there on bring.
   pub record Followed (so-far next : ℕ) : Type 0 where
     pub within : next ≤ edgeCount l
     pub to : (i : ℕ) → next ≡ suc i → ends (edgesIn l) i ≡ v
-    pub rest : max so-far (bestInto l d e t v more origin next) ≡ bestInto l d e t v more origin (edgeCount l)
+    pub rest : max so-far (bestInto l d w v more origin next) ≡ bestInto l d w v more origin (edgeCount l)
 
   -- The chain goes on at the last edge to v among the first m.
   followed-last : {so-far next m : ℕ} → m ≤ edgeCount l → next ≡ lastBelow (leads l v) m
-      → max so-far (bestInto l d e t v more origin m) ≡ bestInto l d e t v more origin (edgeCount l) → Followed so-far next
+      → max so-far (bestInto l d w v more origin m) ≡ bestInto l d w v more origin (edgeCount l) → Followed so-far next
   unfolding leads
   followed-last {m = m} inside is rest =
       record {
@@ -61,22 +61,22 @@ module _ (l d e t : List ℕ) (v more : ℕ) (origin : Origin) where
     pub followed-none : v < 128 → Followed 0 (getD edges v 0)
     followed-none inside = followed-last (omega arith) (chains .last v inside) (omega arith)
 
-    pub followed-more : (i : ℕ) {so-far next offer more-so-far : ℕ} → next ≡ suc i → Followed so-far next → offer ≡ offered l d e t v more origin i
+    pub followed-more : (i : ℕ) {so-far next offer more-so-far : ℕ} → next ≡ suc i → Followed so-far next → offer ≡ offered l d w v more origin i
         → more-so-far ≡ max so-far offer → Followed more-so-far (getD edges (128 + i) 0)
     followed-more i q f is now =
         let below : i < edgeCount l = omega (arith, f .within) in
         followed-last (omega arith) (rw (f .to i q) at (chains .link i below))
         (omega (arith, best-more i, rw q at (f .rest)))
 
-  pub followed-all : {so-far next : ℕ} → next ≤ 0 → Followed so-far next → so-far ≡ bestInto l d e t v more origin (edgeCount l)
+  pub followed-all : {so-far next : ℕ} → next ≤ 0 → Followed so-far next → so-far ≡ bestInto l d w v more origin (edgeCount l)
   unfolding bestInto best
   followed-all {next = next} over f = let q : next ≡ 0 = omega arith in let r = rw q at (f .rest) in omega arith
 
-  offered-most : (i : ℕ) → offered l d e t v more origin i ≤ cap
+  offered-most : (i : ℕ) → offered l d w v more origin i ≤ cap
   unfolding offered brought
   offered-most i = by-cond (λ (r : ℕ). r ≤ cap) (eqb (ends (edgesIn l) i) v && comes origin (starts (edgesIn l) i)) (λ q. omega arith) (λ q. omega arith)
 
-  pub best-most : (m : ℕ) → bestInto l d e t v more origin m ≤ cap
+  pub best-most : (m : ℕ) → bestInto l d w v more origin m ≤ cap
   unfolding bestInto best offered
   best-most zero = omega arith
   best-most (suc m) = omega (arith, best-most m, offered-most m)

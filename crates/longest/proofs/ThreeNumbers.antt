@@ -1,7 +1,8 @@
 -- The three kinds of number, told by what their functions find, and that they are within the cap.
 use Prim.Native.Nat.{ℕ, _+_, _≤_, min}
-use mathlib.Core.Path.{_≡_, sym, _∙_}
-use mathlib.Core.List.{List}
+use mathlib.Core.Path.{_≡_, refl, sym, _∙_}
+use mathlib.Core.List.{List, [], _∷_, List·Memᴰ, List·Memᴰ·head, List·Memᴰ·tail}
+use mathlib.Core.Bool.{true, not}
 use native.Mathlib.Nat.{add-zero}
 use native.Mathlib.Omega.{arith}
 use lib.ListN.{getD}
@@ -9,79 +10,109 @@ use lib.Dec.{eqb}
 use borrow.Author.Tests.{eq-eqb, ne-eqb}
 use Rattle.model.specs.declared.Loop.{Loop}
 use Rattle.model.specs.Graph.{holds}
-use Rattle.model.proofs.Cases.{by-cond}
+use Rattle.model.proofs.Cases.{by-bool, by-cond}
 use Rattle.graph.specs.Counts.{edgesIn, loopsIn}
-use Rattle.greatest.specs.Numbers.{starts, ends, leave, bestVisit, bestEntry, bestTurn}
+use Rattle.greatest.specs.Numbers.{sum, left, leave, starts, ends, bestVisit, bestEntry, bestTurn}
 use Rattle.greatest.proofs.Best.{best-local}
 use Rattle.longest.specs.declared.Origin.the-variants.{Anywhere, Outside, Inside}
-use Rattle.longest.specs.Tables.{cap, Capped, edgeCount, byVertex, byHeader, leaving, brought, bestInto, visitNumber, entryNumber, turnNumber}
+use Rattle.longest.specs.Tables.{cap, Capped, edgeCount, byVertex, byHeader, leftOf, leaving, brought, bestInto, visitNumber, entryNumber, turnNumber}
+use Rattle.longest.specs.Filling.{Kept}
 use Rattle.longest.proofs.Offers.{best-most}
 
-module _ (l charge d e t : List ℕ) (v : ℕ) where
-  pub visit-first : v ≡ 0 → getD charge v 0 ≡ visitNumber l charge d e t v
+module _ (l charge d w : List ℕ) (v : ℕ) where
+  pub visit-first : v ≡ 0 → getD charge v 0 ≡ visitNumber l charge d w v
   unfolding visitNumber byVertex
   visit-first z = rw (eq-eqb v 0 z)
 
-  pub visit-later : {r : ℕ} → (v ≡ 0 → ⊥) → r ≡ bestInto l d e t v (getD charge v 0) Anywhere (edgeCount l) → r ≡ visitNumber l charge d e t v
+  pub visit-later : {r : ℕ} → (v ≡ 0 → ⊥) → r ≡ bestInto l d w v (getD charge v 0) Anywhere (edgeCount l) → r ≡ visitNumber l charge d w v
   unfolding visitNumber byVertex
   visit-later some p = rw (ne-eqb v 0 some) p
 
-  pub visit-most : Capped charge → visitNumber l charge d e t v ≤ cap
+  pub visit-most : Capped charge → visitNumber l charge d w v ≤ cap
   unfolding visitNumber byVertex
-  visit-most capped = by-cond (λ (r : ℕ). r ≤ cap) (eqb v 0) (λ q. capped .most v) (λ q. best-most l d e t v _ Anywhere _)
+  visit-most capped = by-cond (λ (r : ℕ). r ≤ cap) (eqb v 0) (λ q. capped .most v) (λ q. best-most l d w v _ Anywhere _)
 
-module _ (l d e t : List ℕ) (k : Loop) where
-  pub entry-most : entryNumber l d e t k ≤ cap
+module _ (l d w : List ℕ) (k : Loop) where
+  pub entry-most : entryNumber l d w k ≤ cap
   unfolding entryNumber
-  entry-most = by-cond (λ (r : ℕ). r ≤ cap) (eqb (k .header) 0) (λ q. omega arith) (λ q. best-most l d e t _ _ _ _)
+  entry-most = by-cond (λ (r : ℕ). r ≤ cap) (eqb (k .header) 0) (λ q. omega arith) (λ q. best-most l d w _ _ _ _)
 
-  pub turn-most : turnNumber l d e t k ≤ cap
+  pub turn-most : turnNumber l d w k ≤ cap
   unfolding turnNumber
-  turn-most = best-most l d e t _ _ _ _
+  turn-most = best-most l d w _ _ _ _
 
   -- The loop's range given by numbers.
   module _ {header : ℕ} (at-header : header ≡ k .header) where
-    pub entry-first : header ≡ 0 → 0 ≡ entryNumber l d e t k
+    pub entry-first : header ≡ 0 → 0 ≡ entryNumber l d w k
     unfolding entryNumber
     entry-first z = rw (eq-eqb (k .header) 0 (sym at-header ∙ z))
 
     module _ {last r : ℕ} (at-last : last ≡ k .last) where
-      pub entry-later : (header ≡ 0 → ⊥) → r ≡ bestInto l d e t header 0 (Outside header last) (edgeCount l) → r ≡ entryNumber l d e t k
+      pub entry-later : (header ≡ 0 → ⊥) → r ≡ bestInto l d w header 0 (Outside header last) (edgeCount l) → r ≡ entryNumber l d w k
       unfolding entryNumber
       entry-later some p = rw (ne-eqb (k .header) 0 (λ q. some (at-header ∙ q)), ← at-header, ← at-last) p
 
-      pub turn-is : r ≡ bestInto l d e t header 0 (Inside header last) (edgeCount l) → r ≡ turnNumber l d e t k
+      pub turn-is : r ≡ bestInto l d w header 0 (Inside header last) (edgeCount l) → r ≡ turnNumber l d w k
       unfolding turnNumber
       turn-is p = rw (← at-header, ← at-last) p
 
+-- Sums of numbers that are the same up to the cap are the same up to the cap.
+capped-sums : (f g : Loop → ℕ) (ls : List Loop) → ((k : Loop) → List·Memᴰ k ls → min cap (f k) ≡ min cap (g k)) → min cap (sum f ls) ≡ min cap (sum g ls)
+unfolding sum
+capped-sums f g [] same = refl
+capped-sums f g (k ∷ ls) same = omega (arith, same k (List·Memᴰ·head refl), capped-sums f g ls (λ m i. same m (List·Memᴰ·tail i)))
+
 -- They are the numbers of the equations.
-module _ (l charge d e t : List ℕ) where
-  pub visit-start : (v : ℕ) → v ≡ 0 → visitNumber l charge d e t v ≡ byVertex charge v
+module _ (l charge d e w : List ℕ) {turns : Loop → ℕ} {x : ℕ} (kept : Kept (loopsIn l) e w turns x) where
+  same-left : (u v : ℕ) (k : Loop) → List·Memᴰ k (loopsIn l) → min cap (leftOf w u v k) ≡ min cap (left (byHeader e) turns u v k)
+  unfolding leftOf left
+  same-left u v k i =
+      by-bool (holds k u)
+      (λ p. by-bool (holds k v) (λ q. rw (p, q)) (λ q. rw (p, q) (omega (arith, kept .stays k i))))
+      (λ p. rw p)
+
+  same-leaving : (u v : ℕ) → min cap (leaving l w u v) ≡ min cap (leave (byHeader e) turns (loopsIn l) u v)
+  unfolding leaving leave
+  same-leaving u v = capped-sums (leftOf w u v) (left (byHeader e) turns u v) (loopsIn l) (same-left u v)
+
+  -- What an edge from u brings to v.
+  same-brought : (u v more : ℕ) → brought l d w v more u ≡ min cap (byVertex d u + leave (byHeader e) turns (loopsIn l) u v + more)
+  unfolding brought
+  same-brought u v more = omega (arith, same-leaving u v)
+
+  pub visit-start : (v : ℕ) → v ≡ 0 → visitNumber l charge d w v ≡ byVertex charge v
   unfolding visitNumber
   visit-start v z = rw (eq-eqb v 0 z)
 
   pub visit-number : (v : ℕ) → (v ≡ 0 → ⊥)
-      → visitNumber l charge d e t v
-      ≡ bestVisit (starts (edgesIn l)) (ends (edgesIn l)) (edgeCount l) (loopsIn l) (byVertex charge) (λ k. 0) (byVertex d) (byHeader e) (byHeader t) cap v
-  unfolding visitNumber bestInto brought leaving
-  visit-number v some = rw (ne-eqb v 0 some)
+      → visitNumber l charge d w v
+      ≡ bestVisit (starts (edgesIn l)) (ends (edgesIn l)) (edgeCount l) (loopsIn l) (byVertex charge) (λ k. 0) (byVertex d) (byHeader e) turns cap v
+  unfolding visitNumber bestInto
+  visit-number v some =
+      rw (ne-eqb v 0 some)
+      (best-local (starts (edgesIn l)) (ends (edgesIn l)) (λ u. true) (brought l d w v (byVertex charge v)) v
+      (λ u. min cap (byVertex d u + leave (byHeader e) turns (loopsIn l) u v + byVertex charge v)) (edgeCount l)
+      (λ i r h q. same-brought (starts (edgesIn l) i) v (byVertex charge v)))
 
-  pub entry-start : (k : Loop) → k .header ≡ 0 → entryNumber l d e t k ≡ min cap 0
-  unfolding entryNumber
-  entry-start k z = rw (eq-eqb (k .header) 0 z)
+  module _ (k : Loop) where
+    pub entry-start : k .header ≡ 0 → entryNumber l d w k ≡ min cap 0
+    unfolding entryNumber
+    entry-start z = rw (eq-eqb (k .header) 0 z)
 
-  pub entry-number : (k : Loop) → (k .header ≡ 0 → ⊥)
-      → entryNumber l d e t k
-      ≡ bestEntry (starts (edgesIn l)) (ends (edgesIn l)) (edgeCount l) (loopsIn l) (byVertex charge) (λ k. 0) (byVertex d) (byHeader e) (byHeader t) cap k (k .header)
-  unfolding entryNumber bestInto brought leaving
-  entry-number k some = rw (ne-eqb (k .header) 0 some)
+    pub entry-number : (k .header ≡ 0 → ⊥)
+        → entryNumber l d w k
+        ≡ bestEntry (starts (edgesIn l)) (ends (edgesIn l)) (edgeCount l) (loopsIn l) (byVertex charge) (λ k. 0) (byVertex d) (byHeader e) turns cap k (k .header)
+    unfolding entryNumber bestInto
+    entry-number some =
+        rw (ne-eqb (k .header) 0 some)
+        (best-local (starts (edgesIn l)) (ends (edgesIn l)) (λ u. not (holds k u)) (brought l d w (k .header) 0) (k .header)
+        (λ u. min cap (byVertex d u + leave (byHeader e) turns (loopsIn l) u (k .header) + 0)) (edgeCount l)
+        (λ i r h q. same-brought (starts (edgesIn l) i) (k .header) 0))
 
-  pub turn-number : (k : Loop)
-      → turnNumber l d e t k
-      ≡ bestTurn (starts (edgesIn l)) (ends (edgesIn l)) (edgeCount l) (loopsIn l) (byVertex charge) (λ k. 0) (byVertex d) (byHeader e) (byHeader t) cap k (k .header)
-  unfolding turnNumber bestInto brought leaving
-  turn-number k =
-      best-local (starts (edgesIn l)) (ends (edgesIn l)) (λ u. holds k u)
-      (λ u. min cap (byVertex d u + leave (byHeader e) (byHeader t) (loopsIn l) u (k .header) + 0)) (k .header)
-      (λ u. min cap (byVertex d u + leave (byHeader e) (byHeader t) (loopsIn l) u (k .header))) (edgeCount l)
-      (λ i r h q. rw add-zero)
+    pub turn-number : turnNumber l d w k
+        ≡ bestTurn (starts (edgesIn l)) (ends (edgesIn l)) (edgeCount l) (loopsIn l) (byVertex charge) (λ k. 0) (byVertex d) (byHeader e) turns cap k (k .header)
+    unfolding turnNumber bestInto
+    turn-number =
+        best-local (starts (edgesIn l)) (ends (edgesIn l)) (λ u. holds k u) (brought l d w (k .header) 0) (k .header)
+        (λ u. min cap (byVertex d u + leave (byHeader e) turns (loopsIn l) u (k .header))) (edgeCount l)
+        (λ i r h q. same-brought (starts (edgesIn l) i) (k .header) 0 ∙ (rw add-zero))

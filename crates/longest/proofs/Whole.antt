@@ -1,8 +1,9 @@
 -- All vertices: tables of zeros to begin with, and what stands at the last vertex in the end.
-use Prim.Native.Nat.{ℕ, zero, suc, _-_, _≤_}
+use Prim.Native.Nat.{ℕ, zero, suc, _+_, _-_, _*_, min}
 use mathlib.Core.Path.{_≡_, refl}
 use mathlib.Core.List.{List}
 use mathlib.Core.Logic.{inl, inr}
+use native.Mathlib.Nat.{mul-zero}
 use native.Mathlib.Omega.{arith}
 use lib.ListN.{getD, replicate}
 use Rattle.model.specs.declared.Loop.{Loop}
@@ -19,13 +20,17 @@ use Rattle.longest.specs.Tables.{cap, Capped, edgeCount, byVertex, byHea
 use Rattle.longest.specs.Filling.{Filling, Since}
 use Rattle.longest.specs.Longest.{Longest}
 
-capped-zeros : (n : ℕ) (k : ℕ) → getD (replicate n 0) k 0 ≤ cap
-capped-zeros zero k = omega arith
-capped-zeros (suc n) zero = omega arith
-capped-zeros (suc n) (suc k) = capped-zeros n k
+zero-at : (n k : ℕ) → _≡_ {A = ℕ} (getD (replicate n 0) k 0) 0
+zero-at zero k = refl
+zero-at (suc n) zero = refl
+zero-at (suc n) (suc k) = zero-at n k
 
 zeros : Capped (replicate 128 0)
-zeros = record { most = capped-zeros 128 }
+zeros = record { most = λ k. omega (arith, zero-at 128 k) }
+
+nothing-kept : (k : Loop) → byHeader (replicate 128 0) k ≡ min cap (byHeader (replicate 128 0) k + (k .bound - 1) * 0)
+unfolding byHeader
+nothing-kept k = rw (zero-at 128 (k .header), mul-zero (k .bound - 1)) (omega arith)
 
 none : (k : Loop) → Since 0 0 k → ⊥
 none k (inl s) = omega arith
@@ -35,11 +40,14 @@ module _ {l charge : List ℕ} where
   pub nothing-filled : Checked l → Capped charge → Filling l charge (replicate 128 0) (replicate 128 0) (replicate 128 0) 0 (Since 0 0)
   nothing-filled ok charges =
       record {
-        ready = record { checked = ok; visits = zeros; entries = zeros; turns = zeros };
+        turns = λ k. 0;
+        ready = record { checked = ok; visits = zeros; stays = zeros };
+        entries = zeros;
         charges = charges;
         visits-long = refl;
         entries-long = refl;
-        turns-long = refl;
+        stays-long = refl;
+        kept = record { stays = λ k i. nothing-kept k; later = λ k i h. refl };
         upto = record {
           first = λ s. absurd (omega arith);
           head = λ v k i q s. absurd (omega arith);
@@ -50,8 +58,8 @@ module _ {l charge : List ℕ} where
         };
       }
 
-  module _ {d e t : List ℕ} (f : Filling l charge d e t (verticesIn l) (Since 0 (verticesIn l))) where
-    all-filled : Filled (starts (edgesIn l)) (ends (edgesIn l)) (edgeCount l) (loopsIn l) (byVertex charge) (λ k. 0) (byVertex d) (byHeader e) (byHeader t) cap (verticesIn l)
+  module _ {d e w : List ℕ} (f : Filling l charge d e w (verticesIn l) (Since 0 (verticesIn l))) where
+    all-filled : Filled (starts (edgesIn l)) (ends (edgesIn l)) (edgeCount l) (loopsIn l) (byVertex charge) (λ k. 0) (byVertex d) (byHeader e) (f .turns) cap (verticesIn l)
     all-filled =
         let ok = f .ready .checked in
         complete (linked (checked-graph l ok) (checked-ranges l ok)) (checked-ranges l ok .some-vertex)
@@ -68,5 +76,5 @@ module _ {l charge : List ℕ} where
         }
 
   -- The same, the vertices counted by a number.
-  pub longest-at-last : {d e t : List ℕ} {n : ℕ} → n ≡ verticesIn l → Filling l charge d e t n (Since 0 n) → Longest (problemOf l) (byVertex charge) (getD d (n - 1) 0)
+  pub longest-at-last : {d e w : List ℕ} {n : ℕ} → n ≡ verticesIn l → Filling l charge d e w n (Since 0 n) → Longest (problemOf l) (byVertex charge) (getD d (n - 1) 0)
   longest-at-last is f = rw is (at-last (rw is at f))

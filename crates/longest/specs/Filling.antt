@@ -1,5 +1,5 @@
 -- The tables while they are filled: which equations of `greatest` hold so far.
-use Prim.Native.Nat.{ℕ, _+_, _≤_, _<_}
+use Prim.Native.Nat.{ℕ, _+_, _-_, _*_, _≤_, _<_, min}
 use mathlib.Core.Path.{_≡_}
 use mathlib.Core.List.{List, List·Memᴰ}
 use mathlib.Core.Logic.{_⊎_}
@@ -10,14 +10,22 @@ use Rattle.graph.specs.Counts.{verticesIn, edgesIn, loopsIn}
 use Rattle.greatest.specs.Numbers.{starts, ends, NoHeader, Upto}
 use Rattle.longest.specs.Tables.{cap, Capped, Ready, edgeCount, byVertex, byHeader}
 
+-- What stands for a loop in w: entering it, and all its iterations but the last. The iteration of a loop that begins at x or later is nothing so far.
+pub record Kept (ls : List Loop) (e w : List ℕ) (turns : Loop → ℕ) (x : ℕ) : Type 0 where
+  pub stays : (k : Loop) → List·Memᴰ k ls → byHeader w k ≡ min cap (byHeader e k + (k .bound - 1) * turns k)
+  pub later : (k : Loop) → List·Memᴰ k ls → x ≤ k .header → turns k ≡ 0
+
 -- The equations of the vertices below x, and of the iterations of the loops that are done.
-pub record Filling (l charge d e t : List ℕ) (x : ℕ) (done : Loop → Type 0) : Type 0 where
-  pub ready : Ready l d e t
+pub record Filling (l charge d e w : List ℕ) (x : ℕ) (done : Loop → Type 0) : Type 0 where
+  pub turns : Loop → ℕ
+  pub ready : Ready l d w
+  pub entries : Capped e
   pub charges : Capped charge
   pub visits-long : length d ≡ 128
   pub entries-long : length e ≡ 128
-  pub turns-long : length t ≡ 128
-  pub upto : Upto (starts (edgesIn l)) (ends (edgesIn l)) (edgeCount l) (loopsIn l) (byVertex charge) (λ k. 0) (byVertex d) (byHeader e) (byHeader t) cap x done
+  pub stays-long : length w ≡ 128
+  pub kept : Kept (loopsIn l) e w turns x
+  pub upto : Upto (starts (edgesIn l)) (ends (edgesIn l)) (edgeCount l) (loopsIn l) (byVertex charge) (λ k. 0) (byVertex d) (byHeader e) turns cap x done
 
 -- Which loops are done: before vertex x, where no loop ends at x;
 abbrev pub Before : ℕ → Loop → Type 0
@@ -39,11 +47,11 @@ pub record Part (l : List ℕ) (first to : ℕ) : Type 0 where
   pub whole : (k : Loop) → List·Memᴰ k (loopsIn l) → first ≤ k .header → k .header < to → k .last < to
 
 -- A part filled up to v, with the loops that begin below v.
-pub record Partly (l charge d e t : List ℕ) (first to v : ℕ) : Type 0 where
+pub record Partly (l charge d e w : List ℕ) (first to v : ℕ) : Type 0 where
   pub low : first ≤ v
   pub high : v ≤ to
   pub whole : (k : Loop) → List·Memᴰ k (loopsIn l) → first ≤ k .header → k .header < v → k .last < v
-  pub filling : Filling l charge d e t v (Since first v)
+  pub filling : Filling l charge d e w v (Since first v)
 
 -- r is the index of the loop that begins at v, or the number of loops.
 pub record BeginsAt (ls : List Loop) (v r : ℕ) : Type 0 where

@@ -9,7 +9,7 @@ ghost use Rattle.model.specs.Operations.{Checked};
 ghost use Rattle.graph.specs.Counts.{edgesIn, loopsIn};
 ghost use Rattle.greatest.specs.Numbers.{ends};
 ghost use Rattle.longest.specs.Chains.{EdgeChains, LoopChains, Marked, Chained};
-ghost use Rattle.longest.specs.Tables.{cap, Capped, Ready, edgeCount, byVertex, stay, leaving, comes, offered, bestInto};
+ghost use Rattle.longest.specs.Tables.{cap, Capped, Ready, edgeCount, byVertex, leaving, comes, offered, bestInto};
 ghost use Rattle.longest.specs.Tables.{visitNumber, entryNumber, turnNumber};
 ghost use Rattle.longest.specs.Filling.{Filling, Before, Since, After, Part, BeginsAt};
 ghost use Rattle.longest.specs.Longest.{Longest};
@@ -106,35 +106,28 @@ fn loop_chains(l: &[u64; 1446]) -> [usize; 160]
 }
 
 // What loop i adds to an edge that leaves it: entering it, and all its iterations but the last.
-fn stay_in(l: &[u64; 1446], e: &[u64; 128], t: &[u64; 128], i: usize) -> Cycles
-    requires { ⌜ Checked (now l) ⌝ ∗ ⌜ Capped (now e) × Capped (now t) ⌝ ∗ ⌜ i < length (loopsIn (now l)) ⌝ }
-    ensures { λ r. ⌜ r .0 ≡ min cap (stay (now (e .entry)) (now (t .entry)) (loop (loopsIn (now (l .entry))) i)) ⌝ }
+fn stay_in(l: &[u64; 1446], i: usize, entry: Cycles, turn: Cycles) -> Cycles
+    requires { ⌜ Checked (now l) ⌝ ∗ ⌜ i < length (loopsIn (now l)) ⌝ ∗ ⌜ entry .0 ≤ cap ⌝ }
+    ensures { λ r. ⌜ r .0 ≡ min cap (entry .0 + (loop (loopsIn (now (l .entry))) i .bound - 1) * turn .0) ⌝ }
 {
-    let header = graph::loop_header(l, i);
-    let turns = capped_product(loop_bound(l, i) - 1, Cycles(t[header]));
-    capped_sum(Cycles(e[header]), turns)
+    let turns = capped_product(loop_bound(l, i) - 1, turn);
+    capped_sum(entry, turns)
 }
 
 // What the edge from u to v leaves: the loops around u from the inside out, up to the first that holds v, since those around that one hold v too.
-fn leave(
-    l: &[u64; 1446],
-    loops: &[usize; 160],
-    e: &[u64; 128],
-    t: &[u64; 128],
-    u: usize,
-    v: usize,
-) -> Cycles
-    requires { ⌜ Checked (now l) ⌝ ∗ ⌜ LoopChains (now l) (now loops) ⌝ ∗ ⌜ Capped (now e) × Capped (now t) ⌝ ∗ ⌜ u < 128 ⌝ }
-    ensures { λ r. ⌜ r .0 ≡ min cap (leaving (now (l .entry)) (now (e .entry)) (now (t .entry)) u v) ⌝ }
+fn leave(l: &[u64; 1446], loops: &[usize; 160], w: &[u64; 128], u: usize, v: usize) -> Cycles
+    requires { ⌜ Checked (now l) ⌝ ∗ ⌜ LoopChains (now l) (now loops) ⌝ ∗ ⌜ Capped (now w) ⌝ ∗ ⌜ u < 128 ⌝ }
+    ensures { λ r. ⌜ r .0 ≡ min cap (leaving (now (l .entry)) (now (w .entry)) u v) ⌝ }
 {
     let mut sum = Cycles(0);
     let mut next = loops[u];
     while 0 < next {
         let i = next - 1;
-        if graph::range_holds(graph::loop_header(l, i), graph::loop_last(l, i), v) {
+        let header = graph::loop_header(l, i);
+        if graph::range_holds(header, graph::loop_last(l, i), v) {
             return sum;
         }
-        sum = capped_sum(sum, stay_in(l, e, t, i));
+        sum = capped_sum(sum, Cycles(w[header]));
         next = loops[128 + i];
     }
     sum
@@ -155,19 +148,18 @@ fn offer(
     l: &[u64; 1446],
     loops: &[usize; 160],
     d: &[u64; 128],
-    e: &[u64; 128],
-    t: &[u64; 128],
+    w: &[u64; 128],
     v: usize,
     more: Cycles,
     origin: Origin,
     i: usize,
 ) -> Cycles
-    requires { ⌜ LoopChains (now l) (now loops) ⌝ ∗ ⌜ Ready (now l) (now d) (now e) (now t) ⌝ ∗ ⌜ more .0 ≤ cap ⌝ ∗ ⌜ i < edgeCount (now l) ⌝ ∗ ⌜ ends (edgesIn (now l)) i ≡ v ⌝ }
-    ensures { λ r. ⌜ r .0 ≡ offered (now (l .entry)) (now (d .entry)) (now (e .entry)) (now (t .entry)) v (more .0) origin i ⌝ }
+    requires { ⌜ LoopChains (now l) (now loops) ⌝ ∗ ⌜ Ready (now l) (now d) (now w) ⌝ ∗ ⌜ more .0 ≤ cap ⌝ ∗ ⌜ i < edgeCount (now l) ⌝ ∗ ⌜ ends (edgesIn (now l)) i ≡ v ⌝ }
+    ensures { λ r. ⌜ r .0 ≡ offered (now (l .entry)) (now (d .entry)) (now (w .entry)) v (more .0) origin i ⌝ }
 {
     let u = graph::edge_from(l, i);
     if counts(origin, u) {
-        let before = capped_sum(Cycles(d[u]), leave(l, loops, e, t, u, v));
+        let before = capped_sum(Cycles(d[u]), leave(l, loops, w, u, v));
         return capped_sum(before, more);
     }
     Cycles(0)
@@ -179,20 +171,19 @@ fn best_into(
     edges: &[usize; 640],
     loops: &[usize; 160],
     d: &[u64; 128],
-    e: &[u64; 128],
-    t: &[u64; 128],
+    w: &[u64; 128],
     v: usize,
     more: Cycles,
     origin: Origin,
 ) -> Cycles
-    requires { ⌜ Chained (now l) (now edges) (now loops) ⌝ ∗ ⌜ Ready (now l) (now d) (now e) (now t) ⌝ ∗ ⌜ more .0 ≤ cap ⌝ ∗ ⌜ v < 128 ⌝ }
-    ensures { λ r. ⌜ r .0 ≡ bestInto (now (l .entry)) (now (d .entry)) (now (e .entry)) (now (t .entry)) v (more .0) origin (edgeCount (now (l .entry))) ⌝ }
+    requires { ⌜ Chained (now l) (now edges) (now loops) ⌝ ∗ ⌜ Ready (now l) (now d) (now w) ⌝ ∗ ⌜ more .0 ≤ cap ⌝ ∗ ⌜ v < 128 ⌝ }
+    ensures { λ r. ⌜ r .0 ≡ bestInto (now (l .entry)) (now (d .entry)) (now (w .entry)) v (more .0) origin (edgeCount (now (l .entry))) ⌝ }
 {
     let mut best = Cycles(0);
     let mut next = edges[v];
     while 0 < next {
         let i = next - 1;
-        best = larger(best, offer(l, loops, d, e, t, v, more, origin, i));
+        best = larger(best, offer(l, loops, d, w, v, more, origin, i));
         next = edges[128 + i];
     }
     best
@@ -205,18 +196,17 @@ fn visit_number(
     loops: &[usize; 160],
     charge: &[u64; 128],
     d: &[u64; 128],
-    e: &[u64; 128],
-    t: &[u64; 128],
+    w: &[u64; 128],
     v: usize,
 ) -> Cycles
-    requires { ⌜ Chained (now l) (now edges) (now loops) ⌝ ∗ ⌜ Ready (now l) (now d) (now e) (now t) ⌝ ∗ ⌜ Capped (now charge) ⌝ ∗ ⌜ v < 128 ⌝ }
-    ensures { λ r. ⌜ r .0 ≡ visitNumber (now (l .entry)) (now (charge .entry)) (now (d .entry)) (now (e .entry)) (now (t .entry)) v ⌝ }
+    requires { ⌜ Chained (now l) (now edges) (now loops) ⌝ ∗ ⌜ Ready (now l) (now d) (now w) ⌝ ∗ ⌜ Capped (now charge) ⌝ ∗ ⌜ v < 128 ⌝ }
+    ensures { λ r. ⌜ r .0 ≡ visitNumber (now (l .entry)) (now (charge .entry)) (now (d .entry)) (now (w .entry)) v ⌝ }
 {
     let own = Cycles(charge[v]);
     if v == 0 {
         return own;
     }
-    best_into(l, edges, loops, d, e, t, v, own, Origin::Anywhere)
+    best_into(l, edges, loops, d, w, v, own, Origin::Anywhere)
 }
 
 // The number of entering loop i: the greatest charges that the iteration around it, or the walk, has by then.
@@ -225,12 +215,11 @@ fn entry_number(
     edges: &[usize; 640],
     loops: &[usize; 160],
     d: &[u64; 128],
-    e: &[u64; 128],
-    t: &[u64; 128],
+    w: &[u64; 128],
     i: usize,
 ) -> Cycles
-    requires { ⌜ Chained (now l) (now edges) (now loops) ⌝ ∗ ⌜ Ready (now l) (now d) (now e) (now t) ⌝ ∗ ⌜ i < length (loopsIn (now l)) ⌝ }
-    ensures { λ r. ⌜ r .0 ≡ entryNumber (now (l .entry)) (now (d .entry)) (now (e .entry)) (now (t .entry)) (loop (loopsIn (now (l .entry))) i) ⌝ }
+    requires { ⌜ Chained (now l) (now edges) (now loops) ⌝ ∗ ⌜ Ready (now l) (now d) (now w) ⌝ ∗ ⌜ i < length (loopsIn (now l)) ⌝ }
+    ensures { λ r. ⌜ r .0 ≡ entryNumber (now (l .entry)) (now (d .entry)) (now (w .entry)) (loop (loopsIn (now (l .entry))) i) ⌝ }
 {
     let header = graph::loop_header(l, i);
     if header == 0 {
@@ -241,8 +230,7 @@ fn entry_number(
         edges,
         loops,
         d,
-        e,
-        t,
+        w,
         header,
         Cycles(0),
         Origin::Outside(header, graph::loop_last(l, i)),
@@ -255,12 +243,11 @@ fn turn_number(
     edges: &[usize; 640],
     loops: &[usize; 160],
     d: &[u64; 128],
-    e: &[u64; 128],
-    t: &[u64; 128],
+    w: &[u64; 128],
     i: usize,
 ) -> Cycles
-    requires { ⌜ Chained (now l) (now edges) (now loops) ⌝ ∗ ⌜ Ready (now l) (now d) (now e) (now t) ⌝ ∗ ⌜ i < length (loopsIn (now l)) ⌝ }
-    ensures { λ r. ⌜ r .0 ≡ turnNumber (now (l .entry)) (now (d .entry)) (now (e .entry)) (now (t .entry)) (loop (loopsIn (now (l .entry))) i) ⌝ }
+    requires { ⌜ Chained (now l) (now edges) (now loops) ⌝ ∗ ⌜ Ready (now l) (now d) (now w) ⌝ ∗ ⌜ i < length (loopsIn (now l)) ⌝ }
+    ensures { λ r. ⌜ r .0 ≡ turnNumber (now (l .entry)) (now (d .entry)) (now (w .entry)) (loop (loopsIn (now (l .entry))) i) ⌝ }
 {
     let header = graph::loop_header(l, i);
     best_into(
@@ -268,8 +255,7 @@ fn turn_number(
         edges,
         loops,
         d,
-        e,
-        t,
+        w,
         header,
         Cycles(0),
         Origin::Inside(header, graph::loop_last(l, i)),
@@ -300,22 +286,22 @@ fn range(
     charge: &[u64; 128],
     d: &mut [u64; 128],
     e: &mut [u64; 128],
-    t: &mut [u64; 128],
+    w: &mut [u64; 128],
     first: usize,
     to: usize,
 )
-    requires { ⌜ Chained (now l) (now edges) (now loops) ⌝ ∗ ⌜ Part (now l) first to ⌝ ∗ ⌜ Filling (now l) (now charge) (now d) (now e) (now t) first (Since first first) ⌝ }
-    ensures { λ _. ⌜ Filling (now (l .entry)) (now (charge .entry)) (now (d .exit)) (now (e .exit)) (now (t .exit)) to (Since first to) ⌝ }
+    requires { ⌜ Chained (now l) (now edges) (now loops) ⌝ ∗ ⌜ Part (now l) first to ⌝ ∗ ⌜ Filling (now l) (now charge) (now d) (now e) (now w) first (Since first first) ⌝ }
+    ensures { λ _. ⌜ Filling (now (l .entry)) (now (charge .entry)) (now (d .exit)) (now (e .exit)) (now (w .exit)) to (Since first to) ⌝ }
 {
     let count = graph::loop_count(l);
     let mut v = first;
     while v < to {
         let i = loop_at(l, loops, v);
         if i < count {
-            iteration(l, edges, loops, charge, d, e, t, i);
+            iteration(l, edges, loops, charge, d, e, w, i);
             v = graph::loop_last(l, i) + 1;
         } else {
-            let number = visit_number(l, edges, loops, charge, d, e, t, v);
+            let number = visit_number(l, edges, loops, charge, d, w, v);
             d[v] = number.0;
             v += 1;
         }
@@ -330,20 +316,22 @@ fn iteration(
     charge: &[u64; 128],
     d: &mut [u64; 128],
     e: &mut [u64; 128],
-    t: &mut [u64; 128],
+    w: &mut [u64; 128],
     i: usize,
 )
-    requires { ⌜ Chained (now l) (now edges) (now loops) ⌝ ∗ ⌜ i < length (loopsIn (now l)) ⌝ ∗ ⌜ Filling (now l) (now charge) (now d) (now e) (now t) (loop (loopsIn (now l)) i .header) (Before (loop (loopsIn (now l)) i .header)) ⌝ }
-    ensures { λ _. ⌜ Filling (now (l .entry)) (now (charge .entry)) (now (d .exit)) (now (e .exit)) (now (t .exit)) (loop (loopsIn (now (l .entry))) i .last + 1) (After (loop (loopsIn (now (l .entry))) i .header) (loop (loopsIn (now (l .entry))) i .last)) ⌝ }
+    requires { ⌜ Chained (now l) (now edges) (now loops) ⌝ ∗ ⌜ i < length (loopsIn (now l)) ⌝ ∗ ⌜ Filling (now l) (now charge) (now d) (now e) (now w) (loop (loopsIn (now l)) i .header) (Before (loop (loopsIn (now l)) i .header)) ⌝ }
+    ensures { λ _. ⌜ Filling (now (l .entry)) (now (charge .entry)) (now (d .exit)) (now (e .exit)) (now (w .exit)) (loop (loopsIn (now (l .entry))) i .last + 1) (After (loop (loopsIn (now (l .entry))) i .header) (loop (loopsIn (now (l .entry))) i .last)) ⌝ }
 {
     let header = graph::loop_header(l, i);
     let last = graph::loop_last(l, i);
-    let entry = entry_number(l, edges, loops, d, e, t, i);
+    let entry = entry_number(l, edges, loops, d, w, i);
     e[header] = entry.0;
+    w[header] = entry.0;
     d[header] = charge[header];
-    range(l, edges, loops, charge, d, e, t, header + 1, last + 1);
-    let turn = turn_number(l, edges, loops, d, e, t, i);
-    t[header] = turn.0;
+    range(l, edges, loops, charge, d, e, w, header + 1, last + 1);
+    let turn = turn_number(l, edges, loops, d, w, i);
+    let stay = stay_in(l, i, Cycles(e[header]), turn);
+    w[header] = stay.0;
 }
 
 // The greatest sum of charges over all lawful walks, exact up to the bound's limit.
@@ -356,7 +344,7 @@ pub fn greatest_charges(l: &[u64; 1446], charge: &[u64; 128]) -> Cycles
     let loops = loop_chains(l);
     let mut d = [0u64; 128];
     let mut e = [0u64; 128];
-    let mut t = [0u64; 128];
+    let mut w = [0u64; 128];
     range(
         l,
         &edges,
@@ -364,7 +352,7 @@ pub fn greatest_charges(l: &[u64; 1446], charge: &[u64; 128]) -> Cycles
         charge,
         &mut d,
         &mut e,
-        &mut t,
+        &mut w,
         0,
         vertices,
     );

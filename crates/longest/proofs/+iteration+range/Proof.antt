@@ -20,6 +20,7 @@ use Rattle.graph.proofs.loop_header.Reads as loop-header-reads
 use Rattle.graph.proofs.loop_last.Reads as loop-last-reads
 use Rattle.longest.proofs.entry_number.Reads as entry-number-reads
 use Rattle.longest.proofs.loop_at.Reads as loop-at-reads
+use Rattle.longest.proofs.stay_in.Reads as stay-in-reads
 use Rattle.longest.proofs.turn_number.Reads as turn-number-reads
 use Rattle.longest.proofs.visit_number.Reads as visit-number-reads
 use Rattle.longest.proofs.+iteration+range.{statement}
@@ -58,6 +59,8 @@ iteration-calls t = (
   range.Post,
   turn-number-reads.Asked,
   turn-number-reads.Learnt,
+  stay-in-reads.Asked,
+  stay-in-reads.Learnt,
 )
 
 -- What the callees of `range` ask and give.
@@ -82,54 +85,64 @@ iteration-loop-last-requires : (t : ℕ) → iteration-lts.Need-loop-last-requir
 iteration-loop-last-requires t c κs = (counted (c .before .pre .1 .1 .1 .ready .checked), c .before .pre .1 .1 .0)
 
 iteration-entry-number-requires : (t : ℕ) → iteration-lts.Need-entry-number-requires (iteration-calls t) (iteration-at t) iteration.Post
-iteration-entry-number-requires t c κs = let p = c .before .before .before .before .before .pre .1 in (p .0, (p .1 .1 .ready, p .1 .0))
+iteration-entry-number-requires t c κs = let p = c .before .before .before .before .pre .1 in (p .0, (p .1 .1 .ready, p .1 .0))
 
 iteration-mul-e : (t : ℕ) → iteration-lts.Need-mul-e (iteration-calls t) (iteration-at t) iteration.Post
 iteration-mul-e t c =
-    let s = c .before .before .before .before .before .before in
-    omega (arith, c .before .before .before .before .before .loop-header .ensures, c .before .before .before .before .loop-last .ensures, small (s .pre .1 .1 .1 .ready .checked) _ (s .pre .1 .1 .0))
+    let s = c .before .before .before .before .before in
+    omega (arith, c .before .before .before .before .loop-header .ensures, c .before .before .before .loop-last .ensures, small (s .pre .1 .1 .1 .ready .checked) _ (s .pre .1 .1 .0))
 
 iteration-element-write-e : (t : ℕ) → iteration-lts.Need-element-write-e (iteration-calls t) (iteration-at t) iteration.Post
 iteration-element-write-e t c =
-    let s = c .before .before .before .before .before .before in
-    omega (arith, c .before .before .before .before .before .loop-header .ensures, c .before .before .before .before .loop-last .ensures, small (s .pre .1 .1 .1 .ready .checked) _ (s .pre .1 .1 .0))
+    let s = c .before .before .before .before .before in
+    omega (arith, c .before .before .before .before .loop-header .ensures, c .before .before .before .loop-last .ensures, small (s .pre .1 .1 .1 .ready .checked) _ (s .pre .1 .1 .0))
+
+iteration-mul-w : (t : ℕ) → iteration-lts.Need-mul-w (iteration-calls t) (iteration-at t) iteration.Post
+iteration-mul-w t c =
+    let s = c .before .before .before .before .before in
+    omega (arith, c .before .before .before .before .loop-header .ensures, c .before .before .before .loop-last .ensures, small (s .pre .1 .1 .1 .ready .checked) _ (s .pre .1 .1 .0))
+
+iteration-element-write-w : (t : ℕ) → iteration-lts.Need-element-write-w (iteration-calls t) (iteration-at t) iteration.Post
+iteration-element-write-w t c =
+    let s = c .before .before .before .before .before in
+    omega (arith, c .before .before .before .before .loop-header .ensures, c .before .before .before .loop-last .ensures, small (s .pre .1 .1 .1 .ready .checked) _ (s .pre .1 .1 .0))
 
 iteration-mul-d : (t : ℕ) → iteration-lts.Need-mul-d (iteration-calls t) (iteration-at t) iteration.Post
 iteration-mul-d t c =
-    let s = c .before .before .before .before .before .before in
-    omega (arith, c .before .before .before .before .before .loop-header .ensures, c .before .before .before .before .loop-last .ensures, small (s .pre .1 .1 .1 .ready .checked) _ (s .pre .1 .1 .0))
+    let s = c .before .before .before .before .before in
+    omega (arith, c .before .before .before .before .loop-header .ensures, c .before .before .before .loop-last .ensures, small (s .pre .1 .1 .1 .ready .checked) _ (s .pre .1 .1 .0))
 
 iteration-element-copy-out-d : (t : ℕ) → iteration-lts.Need-element-copy-out-d (iteration-calls t) (iteration-at t) iteration.Post
 iteration-element-copy-out-d t c =
-    let s = c .before .before .before .before .before .before in
-    omega (arith, c .before .before .before .before .before .loop-header .ensures, c .before .before .before .before .loop-last .ensures, small (s .pre .1 .1 .1 .ready .checked) _ (s .pre .1 .1 .0))
+    let s = c .before .before .before .before .before in
+    omega (arith, c .before .before .before .before .loop-header .ensures, c .before .before .before .loop-last .ensures, small (s .pre .1 .1 .1 .ready .checked) _ (s .pre .1 .1 .0))
 
 iteration-mul-d-2 : (t : ℕ) → iteration-lts.Need-mul-d-2 (iteration-calls t) (iteration-at t) iteration.Post
 iteration-mul-d-2 t c =
-    let s = c .before .before .before .before .before .before .before in
-    omega (arith, c .before .before .before .before .before .before .loop-header .ensures, c .before .before .before .before .before .loop-last .ensures, small (s .pre .1 .1 .1 .ready .checked) _ (s .pre .1 .1 .0))
+    let s = c .before .before .before .before .before .before in
+    omega (arith, c .before .before .before .before .before .loop-header .ensures, c .before .before .before .before .loop-last .ensures, small (s .pre .1 .1 .1 .ready .checked) _ (s .pre .1 .1 .0))
 
 iteration-element-write-d : (t : ℕ) → iteration-lts.Need-element-write-d (iteration-calls t) (iteration-at t) iteration.Post
 iteration-element-write-d t c =
-    let s = c .before .before .before .before .before .before .before in
-    omega (arith, c .before .before .before .before .before .before .loop-header .ensures, c .before .before .before .before .before .loop-last .ensures, small (s .pre .1 .1 .1 .ready .checked) _ (s .pre .1 .1 .0))
+    let s = c .before .before .before .before .before .before in
+    omega (arith, c .before .before .before .before .before .loop-header .ensures, c .before .before .before .before .loop-last .ensures, small (s .pre .1 .1 .1 .ready .checked) _ (s .pre .1 .1 .0))
 
 iteration-add-range : (t : ℕ) → iteration-lts.Need-add-range (iteration-calls t) (iteration-at t) iteration.Post
 iteration-add-range t c =
-    let s = c .before .before .before .before .before .before .before .before .before .before in
-    omega (arith, c .before .before .before .before .before .before .before .before .before .loop-header .ensures, c .before .before .before .before .before .before .before .before .loop-last .ensures, small (s .pre .1 .1 .1 .ready .checked) _ (s .pre .1 .1 .0))
+    let s = c .before .before .before .before .before .before .before .before .before in
+    omega (arith, c .before .before .before .before .before .before .before .before .loop-header .ensures, c .before .before .before .before .before .before .before .loop-last .ensures, small (s .pre .1 .1 .1 .ready .checked) _ (s .pre .1 .1 .0))
 
 iteration-add-range-2 : (t : ℕ) → iteration-lts.Need-add-range-2 (iteration-calls t) (iteration-at t) iteration.Post
 iteration-add-range-2 t c =
-    let s = c .before .before .before .before .before .before .before .before .before .before in
-    omega (arith, c .before .before .before .before .before .before .before .before .before .loop-header .ensures, c .before .before .before .before .before .before .before .before .loop-last .ensures, small (s .pre .1 .1 .1 .ready .checked) _ (s .pre .1 .1 .0))
+    let s = c .before .before .before .before .before .before .before .before .before in
+    omega (arith, c .before .before .before .before .before .before .before .before .loop-header .ensures, c .before .before .before .before .before .before .before .loop-last .ensures, small (s .pre .1 .1 .1 .ready .checked) _ (s .pre .1 .1 .0))
 
 iteration-range-requires : (t : ℕ) → iteration-lts.Need-range-requires (iteration-calls t) (iteration-at t) iteration.Post
 iteration-range-requires t c κs =
-    let s = c .before .before .before .before .before .before .before .before .before .before in
+    let s = c .before .before .before .before .before .before .before .before .before in
     let ok = s .pre .1 .1 .1 .ready .checked in
-    let at-header = c .before .before .before .before .before .before .before .before .before .loop-header .ensures in
-    let at-last = c .before .before .before .before .before .before .before .before .loop-last .ensures in
+    let at-header = c .before .before .before .before .before .before .before .before .loop-header .ensures in
+    let at-last = c .before .before .before .before .before .before .before .loop-last .ensures in
     let member = loop-in ok _ (s .pre .1 .1 .0) in
     let w = wide ok _ member in (
       omega (arith, s .pre .0),
@@ -137,17 +150,30 @@ iteration-range-requires t c κs =
     )
 
 iteration-turn-number-requires : (t : ℕ) → iteration-lts.Need-turn-number-requires (iteration-calls t) (iteration-at t) iteration.Post
-iteration-turn-number-requires t c κs =
-    let p = c .before .before .before .before .before .before .before .before .before .before .before .before .before .before .pre .1 in
-    (p .0, (c .before .before .before .range .ensures .ready, p .1 .0))
+iteration-turn-number-requires t c κs = let p = c .before .before .before .before .before .before .before .before .before .before .before .before .pre .1 in (p .0, (c .before .before .range .ensures .ready, p .1 .0))
 
-iteration-mul-t : (t : ℕ) → iteration-lts.Need-mul-t (iteration-calls t) (iteration-at t) iteration.Post
-iteration-mul-t t c =
+iteration-mul-t16 : (t : ℕ) → iteration-lts.Need-mul-t16 (iteration-calls t) (iteration-at t) iteration.Post
+iteration-mul-t16 t c =
+    let s = c .before .before .before .before .before .before .before .before .before .before .before .before .before in
+    omega (arith, c .before .before .before .before .before .before .before .before .before .before .before .before .loop-header .ensures, c .before .before .before .before .before .before .before .before .before .before .before .loop-last .ensures, small (s .pre .1 .1 .1 .ready .checked) _ (s .pre .1 .1 .0))
+
+iteration-element-copy-out-t23 : (t : ℕ) → iteration-lts.Need-element-copy-out-t23 (iteration-calls t) (iteration-at t) iteration.Post
+iteration-element-copy-out-t23 t c =
+    let s = c .before .before .before .before .before .before .before .before .before .before .before .before .before in
+    omega (arith, c .before .before .before .before .before .before .before .before .before .before .before .before .loop-header .ensures, c .before .before .before .before .before .before .before .before .before .before .before .loop-last .ensures, small (s .pre .1 .1 .1 .ready .checked) _ (s .pre .1 .1 .0))
+
+iteration-stay-in-requires : (t : ℕ) → iteration-lts.Need-stay-in-requires (iteration-calls t) (iteration-at t) iteration.Post
+iteration-stay-in-requires t c κs =
+    let p = c .before .before .before .before .before .before .before .before .before .before .before .before .before .before .pre .1 .1 in
+    (p .1 .ready .checked, (p .0, c .before .before .before .before .range .ensures .entries .most _))
+
+iteration-mul-w-2 : (t : ℕ) → iteration-lts.Need-mul-w-2 (iteration-calls t) (iteration-at t) iteration.Post
+iteration-mul-w-2 t c =
     let s = c .before .before .before .before .before .before .before .before .before .before .before .before .before .before .before in
     omega (arith, c .before .before .before .before .before .before .before .before .before .before .before .before .before .before .loop-header .ensures, c .before .before .before .before .before .before .before .before .before .before .before .before .before .loop-last .ensures, small (s .pre .1 .1 .1 .ready .checked) _ (s .pre .1 .1 .0))
 
-iteration-element-write-t : (t : ℕ) → iteration-lts.Need-element-write-t (iteration-calls t) (iteration-at t) iteration.Post
-iteration-element-write-t t c =
+iteration-element-write-w-2 : (t : ℕ) → iteration-lts.Need-element-write-w-2 (iteration-calls t) (iteration-at t) iteration.Post
+iteration-element-write-w-2 t c =
     let s = c .before .before .before .before .before .before .before .before .before .before .before .before .before .before .before in
     omega (arith, c .before .before .before .before .before .before .before .before .before .before .before .before .before .before .loop-header .ensures, c .before .before .before .before .before .before .before .before .before .before .before .before .before .loop-last .ensures, small (s .pre .1 .1 .1 .ready .checked) _ (s .pre .1 .1 .0))
 
@@ -155,13 +181,13 @@ iteration-returns : (t : ℕ) → iteration-lts.Need-returns (iteration-calls t)
 iteration-returns t c =
     let s = c .before .before .before .before .before .before .before .before .before .before .before .before .before .before .before in
     end-loop _ (loop-in (s .pre .1 .1 .1 .ready .checked) _ (s .pre .1 .1 .0)) (c .before .before .before .before .before .before .before .before .before .before .before .before .before .before .loop-header .ensures) (c .before .before .before .before .before .before .before .before .before .before .before .before .before .loop-last .ensures)
-    (c .before .before .before .before .range .ensures) (c .turn-number .ensures)
+    (c .before .before .before .before .before .range .ensures) (c .before .before .turn-number .ensures) (c .stay-in .ensures)
 
 abbrev range-Inv-loop : range-lts.InvT-loop
-range-Inv-loop l edges loops charge d₀ e₀ t₀ first to count v₀ d e t v = Partly l charge d e t first to v
+range-Inv-loop l edges loops charge d₀ e₀ w₀ first to count v₀ d e w v = Partly l charge d e w first to v
 
 abbrev range-μ-loop : range-lts.MeasureT-loop
-range-μ-loop l edges loops charge d₀ e₀ t₀ first to count v₀ d e t v = to - v
+range-μ-loop l edges loops charge d₀ e₀ w₀ first to count v₀ d e w v = to - v
 
 range-loop-count-requires : (t : ℕ) → range-lts.Need-loop-count-requires (range-calls t) (range-at t) range.Post range-Inv-loop range-μ-loop
 range-loop-count-requires t c κs = counted (c .pre .1 .1 .1 .ready .checked)
@@ -216,33 +242,33 @@ range-loop-again t c =
 
 range-visit-number-requires : (t : ℕ) → range-lts.Need-visit-number-requires (range-calls t) (range-at t) range.Post range-Inv-loop range-μ-loop
 range-visit-number-requires t c κs =
-    let so-far = c .before .before .before .before .before .before .loop .inv in
+    let so-far = c .before .before .before .before .before .loop .inv in
     let f = so-far .filling in
-    let v = below-vertices (c .before .before .before .before .before .before .before .before .pre .1 .1 .0) so-far (c .before .before .before .before .before .loop-test .taken) in
-    (c .before .before .before .before .before .before .before .before .pre .1 .0, (f .ready, (f .charges, omega (arith, few-vertices (f .ready .checked)))))
+    let v = below-vertices (c .before .before .before .before .before .before .before .pre .1 .1 .0) so-far (c .before .before .before .before .loop-test .taken) in
+    (c .before .before .before .before .before .before .before .pre .1 .0, (f .ready, (f .charges, omega (arith, few-vertices (f .ready .checked)))))
 
 range-mul-d : (t : ℕ) → range-lts.Need-mul-d (range-calls t) (range-at t) range.Post range-Inv-loop range-μ-loop
 range-mul-d t c =
-    let so-far = c .before .before .before .before .before .before .before .loop .inv in
-    omega (arith, below-vertices (c .before .before .before .before .before .before .before .before .before .pre .1 .1 .0) so-far (c .before .before .before .before .before .before .loop-test .taken), few-vertices (so-far .filling .ready .checked))
+    let so-far = c .before .before .before .before .before .before .loop .inv in
+    omega (arith, below-vertices (c .before .before .before .before .before .before .before .before .pre .1 .1 .0) so-far (c .before .before .before .before .before .loop-test .taken), few-vertices (so-far .filling .ready .checked))
 
 range-element-write-d : (t : ℕ) → range-lts.Need-element-write-d (range-calls t) (range-at t) range.Post range-Inv-loop range-μ-loop
 range-element-write-d t c =
-    let so-far = c .before .before .before .before .before .before .before .loop .inv in
-    omega (arith, below-vertices (c .before .before .before .before .before .before .before .before .before .pre .1 .1 .0) so-far (c .before .before .before .before .before .before .loop-test .taken), few-vertices (so-far .filling .ready .checked))
+    let so-far = c .before .before .before .before .before .before .loop .inv in
+    omega (arith, below-vertices (c .before .before .before .before .before .before .before .before .pre .1 .1 .0) so-far (c .before .before .before .before .before .loop-test .taken), few-vertices (so-far .filling .ready .checked))
 
 range-add-v-2 : (t : ℕ) → range-lts.Need-add-v-2 (range-calls t) (range-at t) range.Post range-Inv-loop range-μ-loop
 range-add-v-2 t c =
-    let so-far = c .before .before .before .before .before .before .before .loop .inv in
-    omega (arith, below-vertices (c .before .before .before .before .before .before .before .before .before .pre .1 .1 .0) so-far (c .before .before .before .before .before .before .loop-test .taken), few-vertices (so-far .filling .ready .checked))
+    let so-far = c .before .before .before .before .before .before .loop .inv in
+    omega (arith, below-vertices (c .before .before .before .before .before .before .before .before .pre .1 .1 .0) so-far (c .before .before .before .before .before .loop-test .taken), few-vertices (so-far .filling .ready .checked))
 
 range-loop-less-2 : (t : ℕ) → range-lts.Need-loop-less-2 (range-calls t) (range-at t) range.Post range-Inv-loop range-μ-loop
 range-loop-less-2 t c = omega arith
 
 range-loop-again-2 : (t : ℕ) → range-lts.Need-loop-again-2 (range-calls t) (range-at t) range.Post range-Inv-loop range-μ-loop
 range-loop-again-2 t c =
-    past-visit (c .before .before .before .before .before .before .before .before .before .pre .1 .1 .0) (c .before .before .before .before .before .before .before .loop .inv) (c .before .before .before .before .before .before .loop-test .taken)
-    (c .before .before .before .before .before .loop-at .ensures .none (rw (c .before .before .before .before .before .before .before .before .loop-count .ensures) at (c .before .before .before .before .if1 .left))) (c .visit-number .ensures)
+    past-visit (c .before .before .before .before .before .before .before .before .pre .1 .1 .0) (c .before .before .before .before .before .before .loop .inv) (c .before .before .before .before .before .loop-test .taken)
+    (c .before .before .before .before .loop-at .ensures .none (rw (c .before .before .before .before .before .before .before .loop-count .ensures) at (c .before .before .before .if1 .left))) (c .visit-number .ensures)
 
 range-returns : (t : ℕ) → range-lts.Need-returns (range-calls t) (range-at t) range.Post range-Inv-loop range-μ-loop
 range-returns t c = finish (c .before .loop .inv) (c .loop-test .left)
@@ -256,6 +282,8 @@ pub +iteration+range-spec : {M : Type 1} → statement M
     (iteration-entry-number-requires t)
     (iteration-mul-e t)
     (iteration-element-write-e t)
+    (iteration-mul-w t)
+    (iteration-element-write-w t)
     (iteration-mul-d t)
     (iteration-element-copy-out-d t)
     (iteration-mul-d-2 t)
@@ -264,8 +292,11 @@ pub +iteration+range-spec : {M : Type 1} → statement M
     (iteration-add-range-2 t)
     (iteration-range-requires t)
     (iteration-turn-number-requires t)
-    (iteration-mul-t t)
-    (iteration-element-write-t t)
+    (iteration-mul-t16 t)
+    (iteration-element-copy-out-t23 t)
+    (iteration-stay-in-requires t)
+    (iteration-mul-w-2 t)
+    (iteration-element-write-w-2 t)
     (iteration-returns t))
     (λ t. range-lts.spec (range-calls t) (range-at t) range.Post range-Inv-loop range-μ-loop
     (range-loop-count-requires t)

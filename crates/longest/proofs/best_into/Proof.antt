@@ -9,10 +9,10 @@ use Rattle.longest.proofs.best_into.Statement.{statement}
 use Rattle.longest.proofs.best_into.Tie as tie
 
 abbrev Inv-loop : tie.InvT-loop
-Inv-loop l edges loops d e t v more origin best₀ next₀ best next = Followed l d e t v (more .0) origin (best .0) next
+Inv-loop l edges loops d w v more origin best₀ next₀ best next = Followed l d w v (more .0) origin (best .0) next
 
 abbrev μ-loop : tie.MeasureT-loop
-μ-loop l edges loops d e t v more origin best₀ next₀ best next = next
+μ-loop l edges loops d w v more origin best₀ next₀ best next = next
 
 mul-next : tie.Need-mul-next Inv-loop μ-loop
 mul-next c = omega arith
@@ -21,7 +21,7 @@ element-copy-out-next : tie.Need-element-copy-out-next Inv-loop μ-loop
 element-copy-out-next c = omega arith
 
 loop-holds : tie.Need-loop-holds Inv-loop μ-loop
-loop-holds c = followed-none _ _ _ _ _ _ _ (c .before .pre .0 .into) (c .before .pre .1 .1 .1)
+loop-holds c = followed-none _ _ _ _ _ _ (c .before .pre .0 .into) (c .before .pre .1 .1 .1)
 
 sub-i : tie.Need-sub-i Inv-loop μ-loop
 sub-i c = omega arith
@@ -50,11 +50,11 @@ loop-less c =
 
 loop-again : tie.Need-loop-again Inv-loop μ-loop
 loop-again c =
-    followed-more _ _ _ _ _ _ _ (c .before .before .before .before .before .before .pre .0 .into) _ (omega arith) (c .before .before .before .before .loop .inv)
+    followed-more _ _ _ _ _ _ (c .before .before .before .before .before .before .pre .0 .into) _ (omega arith) (c .before .before .before .before .loop .inv)
     (c .before .before .offer .ensures) (c .before .larger .ensures)
 
 returns : tie.Need-returns Inv-loop μ-loop
-returns c = followed-all _ _ _ _ _ _ _ (omega arith) (c .before .loop .inv)
+returns c = followed-all _ _ _ _ _ _ (omega arith) (c .before .loop .inv)
 
 pub best-into-spec : {M : Type 1} → statement M
 best-into-spec =

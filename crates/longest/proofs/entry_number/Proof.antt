@@ -9,7 +9,7 @@ loop-header-requires : tie.Need-loop-header-requires
 loop-header-requires c κs = (counted (c .pre .1 .0 .checked), c .pre .1 .1)
 
 returns : tie.Need-returns
-returns c = entry-first _ _ _ _ _ (c .before .loop-header .ensures) (c .if1 .taken)
+returns c = entry-first _ _ _ _ (c .before .loop-header .ensures) (c .if1 .taken)
 
 loop-last-requires : tie.Need-loop-last-requires
 loop-last-requires c κs = (counted (c .before .before .pre .1 .0 .checked), c .before .before .pre .1 .1)
@@ -20,7 +20,7 @@ best-into-requires c κs =
     (p .0, (p .1 .0, (omega arith, omega (arith, c .before .before .loop-header .ensures, header-small (p .1 .0 .checked) _ (p .1 .1)))))
 
 returns-2 : tie.Need-returns-2
-returns-2 c = entry-later _ _ _ _ _ (c .before .before .before .loop-header .ensures) (c .before .loop-last .ensures) (c .before .before .if1 .left) (c .best-into .ensures)
+returns-2 c = entry-later _ _ _ _ (c .before .before .before .loop-header .ensures) (c .before .loop-last .ensures) (c .before .before .if1 .left) (c .best-into .ensures)
 
 pub entry-number-spec : {M : Type 1} → statement M
 entry-number-spec =

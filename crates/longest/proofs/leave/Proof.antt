@@ -1,7 +1,7 @@
 -- `longest::leave` follows the chain of the loops around u, and adds up those that do not hold v.
 use Prim.Native.Nat.{_-_}
 use native.Mathlib.Omega.{arith}
-use Rattle.longest.proofs.Checks.{counted, loops-few}
+use Rattle.longest.proofs.Checks.{counted, loops-few, header-small}
 use Rattle.longest.proofs.Chains.{link-less}
 use Rattle.longest.proofs.Leaving.{Left, left-start, left-stop, left-more, left-all}
 use borrow.Author.Needs.{needs}
@@ -9,10 +9,10 @@ use Rattle.longest.proofs.leave.Statement.{statement}
 use Rattle.longest.proofs.leave.Tie as tie
 
 abbrev Inv-loop : tie.InvT-loop
-Inv-loop l loops e t u v sum₀ next₀ sum next = Left l e t u v (sum .0) next
+Inv-loop l loops w u v sum₀ next₀ sum next = Left l w u v (sum .0) next
 
 abbrev μ-loop : tie.MeasureT-loop
-μ-loop l loops e t u v sum₀ next₀ sum next = next
+μ-loop l loops w u v sum₀ next₀ sum next = next
 
 mul-next : tie.Need-mul-next Inv-loop μ-loop
 mul-next c = omega arith
@@ -21,7 +21,7 @@ element-copy-out-next : tie.Need-element-copy-out-next Inv-loop μ-loop
 element-copy-out-next c = omega arith
 
 loop-holds : tie.Need-loop-holds Inv-loop μ-loop
-loop-holds c = left-start _ _ _ _ _ (c .before .pre .1 .0) (c .before .pre .1 .1 .1)
+loop-holds c = left-start _ _ _ _ (c .before .pre .1 .0) (c .before .pre .1 .1 .1)
 
 sub-i : tie.Need-sub-i Inv-loop μ-loop
 sub-i c = omega arith
@@ -37,14 +37,17 @@ range-holds-requires c κs = search needs
 
 returns : tie.Need-returns Inv-loop μ-loop
 returns c =
-    left-stop _ _ _ _ _ (c .before .before .before .before .before .before .before .pre .0) _ (omega arith) (c .before .before .before .before .before .loop .inv) (c .before .before .before .loop-header .ensures) (c .before .before .loop-last .ensures)
+    left-stop _ _ _ _ (c .before .before .before .before .before .before .before .pre .0) _ (omega arith) (c .before .before .before .before .before .loop .inv) (c .before .before .before .loop-header .ensures) (c .before .before .loop-last .ensures)
     (c .before .range-holds .ensures) (c .if1 .taken)
 
-stay-in-requires : tie.Need-stay-in-requires Inv-loop μ-loop
-stay-in-requires c κs = (c .before .before .before .before .before .before .before .pre .0, (c .before .before .before .before .before .before .before .pre .1 .1 .0, omega arith))
+mul-t16 : tie.Need-mul-t16 Inv-loop μ-loop
+mul-t16 c = omega (arith, c .before .before .before .loop-header .ensures, header-small (c .before .before .before .before .before .before .before .pre .0) (c .before .before .before .before .before .loop .next - 1) (omega arith))
+
+element-copy-out-t19 : tie.Need-element-copy-out-t19 Inv-loop μ-loop
+element-copy-out-t19 c = omega (arith, c .before .before .before .loop-header .ensures, header-small (c .before .before .before .before .before .before .before .pre .0) (c .before .before .before .before .before .loop .next - 1) (omega arith))
 
 capped-sum-requires : tie.Need-capped-sum-requires Inv-loop μ-loop
-capped-sum-requires c κs = (omega arith, omega arith)
+capped-sum-requires c κs = (omega arith, c .before .before .before .before .before .before .before .before .pre .1 .1 .0 .most _)
 
 add-next : tie.Need-add-next Inv-loop μ-loop
 add-next c = omega (arith, loops-few (c .before .before .before .before .before .before .before .before .before .pre .0))
@@ -60,11 +63,11 @@ loop-less c = omega (arith, link-less (c .before .before .before .before .before
 
 loop-again : tie.Need-loop-again Inv-loop μ-loop
 loop-again c =
-    left-more _ _ _ _ _ (c .before .before .before .before .before .before .before .before .before .before .pre .0) _ (omega arith) (c .before .before .before .before .before .before .before .before .loop .inv) (c .before .before .before .before .before .before .loop-header .ensures) (c .before .before .before .before .before .loop-last .ensures)
-    (c .before .before .before .before .range-holds .ensures) (c .before .before .before .before .before .before .before .before .before .before .pre .1 .0) (c .before .before .before .if1 .left) (c .before .before .stay-in .ensures) (c .before .capped-sum .ensures)
+    left-more _ _ _ _ (c .before .before .before .before .before .before .before .before .before .before .pre .0) _ (omega arith) (c .before .before .before .before .before .before .before .before .loop .inv) (c .before .before .before .before .before .before .loop-header .ensures) (c .before .before .before .before .before .loop-last .ensures)
+    (c .before .before .before .before .range-holds .ensures) (c .before .before .before .before .before .before .before .before .before .before .pre .1 .0) (c .before .before .before .if1 .left) (c .before .capped-sum .ensures)
 
 returns-2 : tie.Need-returns-2 Inv-loop μ-loop
-returns-2 c = left-all _ _ _ _ _ (omega arith) (c .before .loop .inv)
+returns-2 c = left-all _ _ _ _ (omega arith) (c .before .loop .inv)
 
 pub leave-spec : {M : Type 1} → statement M
 leave-spec =
@@ -80,7 +83,8 @@ leave-spec =
     loop-last-requires
     range-holds-requires
     returns
-    stay-in-requires
+    mul-t16
+    element-copy-out-t19
     capped-sum-requires
     add-next
     mul-next-2

@@ -17,7 +17,7 @@ best-into-requires c κs =
     (p .0, (p .1 .0, (omega arith, omega (arith, c .before .loop-header .ensures, header-small (p .1 .0 .checked) _ (p .1 .1)))))
 
 returns : tie.Need-returns
-returns c = turn-is _ _ _ _ _ (c .before .before .loop-header .ensures) (c .before .loop-last .ensures) (c .best-into .ensures)
+returns c = turn-is _ _ _ _ (c .before .before .loop-header .ensures) (c .before .loop-last .ensures) (c .best-into .ensures)
 
 pub turn-number-spec : {M : Type 1} → statement M
 turn-number-spec =
