@@ -19,7 +19,7 @@ use Rattle.greatest.proofs.Checked.{checked-ranges}
 use Rattle.longest.specs.Tables.{cap, Capped, byVertex, byHeader, visitNumber, entryNumber, turnNumber}
 use Rattle.longest.specs.Filling.{Kept, Filling, Before, Since, After}
 use Rattle.longest.proofs.Checks.{few-vertices, rules-of, order-of}
-use Rattle.longest.proofs.ThreeNumbers.{visit-most, entry-most, turn-most, visit-start, visit-number, entry-start, entry-number, turn-number}
+use Rattle.longest.proofs.ThreeNumbers.{visit-most, entry-most, visit-start, visit-number, entry-start, entry-number, turn-number}
 use Rattle.longest.proofs.Growth.{visited, entered, turned}
 
 module _ (s : List ℕ) (i x : ℕ) where

@@ -37,10 +37,6 @@ module _ (l d w : List ℕ) (k : Loop) where
   unfolding entryNumber
   entry-most = by-cond (λ (r : ℕ). r ≤ cap) (eqb (k .header) 0) (λ q. omega arith) (λ q. best-most l d w _ _ _ _)
 
-  pub turn-most : turnNumber l d w k ≤ cap
-  unfolding turnNumber
-  turn-most = best-most l d w _ _ _ _
-
   -- The loop's range given by numbers.
   module _ {header : ℕ} (at-header : header ≡ k .header) where
     pub entry-first : header ≡ 0 → 0 ≡ entryNumber l d w k

@@ -1,7 +1,7 @@
 // The longest lawful walk: the greatest sum of charges, found a vertex and a loop at a time, exact up to the bound's limit.
 use model::Cycles;
 ghost use mathlib.Core.Path.{_≡_};
-ghost use Prim.Native.Nat.{ℕ, _+_, _*_, _-_, _≤_, _<_, min, max};
+ghost use Prim.Native.Nat.{_+_, _*_, _-_, _≤_, _<_, min, max};
 ghost use lib.ListN.{length};
 ghost use Rattle.model.specs.Numbers.{problemOf};
 ghost use Rattle.model.specs.Graph.{loop};
@@ -278,7 +278,8 @@ fn loop_at(l: &[u64; 1446], loops: &[usize; 160], v: usize) -> usize
     graph::loop_count(l)
 }
 
-// The numbers of the vertices from `first` to `to`, the latter not counted, and of the loops among them.
+// The numbers of the vertices from `first` to `to`, the latter not counted, and of the loops among them: in d those of vertices, and by a loop's header
+// in e that of entering it and in w what it adds to an edge that leaves it.
 fn range(
     l: &[u64; 1446],
     edges: &[usize; 640],
