@@ -57,7 +57,7 @@ ascend-by-next [] s = tt
 ascend-by-next (l ∷ ls) s = (first-below l ls s, ascend-by-next ls (λ j h. s (suc j) (omega arith)))
 
 -- The order of headers is the order of places.
-ascend-at : (ls : List Loop) → Ascend ls → (i j : ℕ) → i < j → j < length ls → loop ls i .header < loop ls j .header
+pub ascend-at : (ls : List Loop) → Ascend ls → (i j : ℕ) → i < j → j < length ls → loop ls i .header < loop ls j .header
 ascend-at [] s i j p q = absurd (omega arith)
 ascend-at (l ∷ ls) s i zero p q = absurd (omega arith)
 ascend-at (l ∷ ls) s zero (suc j) p q = s .0 (loop ls j) (mem-getD ls j zeroLoop (omega arith))

@@ -1,10 +1,9 @@
 -- What checked numbers say of the edges and loops among them, by index.
-use Prim.Native.Nat.{ℕ, zero, suc, _≤_, _<_}
+use Prim.Native.Nat.{ℕ, _≤_, _<_}
 use mathlib.Core.Path.{_≡_, refl}
-use mathlib.Core.List.{List, [], _∷_, List·Memᴰ}
+use mathlib.Core.List.{List, List·Memᴰ}
 use native.Mathlib.Omega.{arith}
 use lib.ListN.{length, getD}
-use Rattle.model.specs.declared.Loop.{Loop}
 use Rattle.model.specs.Zero.{zeroEdge, zeroLoop}
 use Rattle.model.specs.Numbers.{problemOf}
 use Rattle.model.specs.Graph.{edge, loop}
@@ -13,17 +12,9 @@ use Rattle.model.proofs.Lists.{mem-getD}
 use Rattle.graph.specs.Counts.{Counted, verticesIn, edgesIn, loopsIn}
 use Rattle.graph.proofs.Places.{edge-count, loop-count}
 use Rattle.file.proofs.Counts as counts
-use Rattle.greatest.proofs.Loops.{Ascend}
 use Rattle.greatest.proofs.Rules.{Rules, Order}
-use Rattle.greatest.proofs.Graph.{EdgeIn, Ranges, rules, order}
+use Rattle.greatest.proofs.Graph.{EdgeIn, Ranges, ascend-at, rules, order}
 use Rattle.greatest.proofs.Checked.{checked-graph, checked-ranges}
-
--- The order of places is the order of headers.
-ascend-at : (ls : List Loop) → Ascend ls → (i j : ℕ) → i < j → j < length ls → loop ls i .header < loop ls j .header
-ascend-at [] s i j p q = absurd (omega arith)
-ascend-at (k ∷ ls) s i zero p q = absurd (omega arith)
-ascend-at (k ∷ ls) s zero (suc j) p q = s .0 (loop ls j) (mem-getD ls j zeroLoop (omega arith))
-ascend-at (k ∷ ls) s (suc i) (suc j) p q = ascend-at ls (s .1) i j (omega arith) (omega arith)
 
 module _ {l : List ℕ} (ok : Checked l) where
   pub counted : Counted l
