@@ -13,7 +13,7 @@ use Rattle.model.proofs.Cases.{true-not-false}
 
 module _ (fn : ℕ → ℕ) where
   -- A member of `since f (u ∷ h)`: u is not of f, and the member is u's function or one of `since f h`.
-  since-cases : (f g u : ℕ) (h : List ℕ) → List·Memᴰ g (since fn f (u ∷ h)) → (fn u ≡ f → ⊥) × ((g ≡ fn u) ⊎ List·Memᴰ g (since fn f h))
+  pub since-cases : (f g u : ℕ) (h : List ℕ) → List·Memᴰ g (since fn f (u ∷ h)) → (fn u ≡ f → ⊥) × ((g ≡ fn u) ⊎ List·Memᴰ g (since fn f h))
   unfolding since
   since-cases f g u h m = at (eqb (fn u) f) refl m
     where
