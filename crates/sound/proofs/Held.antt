@@ -12,6 +12,7 @@ use borrow.Author.Tests.{eqb-true, eqb-false, eq-eqb, ne-eqb}
 use Rattle.model.specs.Walks.{Walk, start, step}
 use Rattle.model.specs.Interference.{since, Contested}
 use Rattle.model.specs.Runs.{held}
+use Rattle.sound.specs.Held.{Holds}
 use Rattle.sound.proofs.Flow.{since-cases}
 
 same-held : {f g : ℕ} → some f ≡ some g → f ≡ g
@@ -65,12 +66,8 @@ module _ (fn region : ℕ → ℕ) where
       at false q ne (inr j) ih = ih j
 
   module _ (Edge : ℕ → ℕ → Type 0) where
-    -- Some walk arrives at v with g held in its region.
-    abbrev pub Holds : ℕ → ℕ → Type 0
-    Holds v g = (h : List ℕ) × Walk Edge v h × (held fn region (region g) h ≡ some g)
-
     -- v is contested exactly if some walk arrives with another function held in the region of v's function.
-    pub contested-held : (v : ℕ) → Contested fn Edge region v ↔ ((g : ℕ) × (g ≡ fn v → ⊥) × (region g ≡ region (fn v)) × Holds v g)
+    pub contested-held : (v : ℕ) → Contested fn Edge region v ↔ ((g : ℕ) × (g ≡ fn v → ⊥) × (region g ≡ region (fn v)) × Holds fn region Edge v g)
     contested-held v = (
       λ (g, (ne, (h, t, m)), same).
           let (x, other, e) = since-held (fn v) g h same m in
@@ -82,11 +79,11 @@ module _ (fn region : ℕ → ℕ) where
     )
 
     -- What a step adds has a walk: the start's own function, and what was held in another region.
-    pub held-first : (u v : ℕ) (h : List ℕ) → Walk Edge u h → Edge u v → Holds v (fn u)
+    pub held-first : (u v : ℕ) (h : List ℕ) → Walk Edge u h → Edge u v → Holds fn region Edge v (fn u)
     unfolding held
     held-first u v h t e = (u ∷ h, step t e, rw (eq-eqb (region (fn u)) (region (fn u)) refl))
 
-    pub held-further : (u v g : ℕ) → Holds u g → Edge u v → (region (fn u) ≡ region g → ⊥) → Holds v g
+    pub held-further : (u v g : ℕ) → Holds fn region Edge u g → Edge u v → (region (fn u) ≡ region g → ⊥) → Holds fn region Edge v g
     unfolding held
     held-further u v g (h, t, x) e ne = (u ∷ h, step t e, rw (ne-eqb (region (fn u)) (region g) ne) x)
 

@@ -1,0 +1,124 @@
+-- The flow over the edges: each member that a step adds has a walk, and a table that no edge changes holds all that walks show.
+use Prim.Native.Nat.{ℕ, _<_}
+use mathlib.Core.Path.{_≡_, refl, sym, subst, _∙_}
+use mathlib.Core.List.{List}
+use mathlib.Core.Bool.{Bool}
+use mathlib.Core.Logic.{_⊎_, inl, inr, ⊎-elim, _↔_}
+use native.Mathlib.Omega.{arith}
+use lib.ListN.{length, getD, replicate, length-replicate, getD-replicate, List·getD-eq-default}
+use lib.Dec.{eqb}
+use borrow.Author.Tests.{eqb-true, eqb-false}
+use Rattle.model.specs.declared.Edge.{Edge}
+use Rattle.model.specs.Zero.{zeroEdge}
+use Rattle.model.specs.Numbers.{problemOf}
+use Rattle.model.specs.Graph.{edge, edgesOf}
+use Rattle.model.specs.Costs.{functionOf}
+use Rattle.model.specs.Walks.{EdgeOf}
+use Rattle.model.specs.Layouts.{regionOf}
+use Rattle.model.specs.Operations.{Checked}
+use Rattle.model.specs.Results.{Member}
+use Rattle.model.proofs.Cases.{by-bool, by-order}
+use Rattle.model.proofs.Lists.{mem-getD, index-of}
+use Rattle.lookup.proofs.Places.{function-below}
+use Rattle.sound.specs.Held.{Holds}
+use Rattle.sound.proofs.Held.{held-first, held-further, held-complete}
+use Rattle.interference.specs.Words.{Has, Step, Sound, Swept, Closed}
+use Rattle.interference.specs.Flows.{from, to}
+use Rattle.interference.proofs.Bits.{none-in-zero}
+use Rattle.interference.proofs.Bounds.{from-below}
+use Rattle.interference.proofs.Reached.{starts}
+use Rattle.interference.proofs.Sweeps.{by-step}
+use Rattle.latest.specs.Rivals.{RivalTable}
+use Rattle.latest.specs.Flow.{Shown, Gains, Passed, AllPassed, LatestTable}
+
+empty : (k b : ℕ) → Has (replicate 128 0) k b → ⊥
+empty k b h = none-in-zero b (subst (λ (w : ℕ). Member w b) all-zero h)
+  where
+    all-zero : getD (replicate {A = ℕ} 128 0) k 0 ≡ 0
+    all-zero =
+        by-order k 128 (λ low. getD-replicate 128 k 0 0 low)
+        (λ high. List·getD-eq-default (replicate {A = ℕ} 128 0) 0 {n = k} (omega (arith, length-replicate {A = ℕ} 128 0)))
+
+module _ (l : List ℕ) (ok : Checked l) where
+  start-known : (i : ℕ) → i < length (edgesOf (problemOf l)) → functionOf (problemOf l) (from (problemOf l) i) < problemOf l .«function_count»
+  start-known i here = function-below l ok (from (problemOf l) i) (from-below l ok i here)
+
+  -- What holds of every edge by its number holds of every edge.
+  by-number : (P : Edge → Type 0) → ((i : ℕ) → i < length (edgesOf (problemOf l)) → P (edge (edgesOf (problemOf l)) i)) →
+      (u v : ℕ) → EdgeOf (problemOf l) u v → P (record { from = u; to = v })
+  by-number P all u v e = let r = index-of zeroEdge e in subst P (r .2) (all (r .0) (r .1))
+
+  -- What is held is the function of a vertex on a walk.
+  pub held-known : (layout : List ℕ) (v g : ℕ) → Holds (functionOf (problemOf l)) (regionOf layout) (EdgeOf (problemOf l)) v g → g < problemOf l .«function_count»
+  held-known layout v g (h, walk, e) =
+      held-complete (functionOf (problemOf l)) (regionOf layout) (EdgeOf (problemOf l)) (λ w x. x < problemOf l .«function_count»)
+      (λ u w d. (by-number (λ (x : Edge). functionOf (problemOf l) (x .from) < problemOf l .«function_count») start-known u w d, λ x other low. low)) g walk e
+
+  module _ (rivals : List ℕ) where
+    -- A member that edge i brings to its end.
+    module _ (i : ℕ) (here : i < length (edgesOf (problemOf l))) (layout : List ℕ) (table : RivalTable (problemOf l) layout rivals) where
+      abbrev MayHold : ℕ → ℕ → Type 0
+      MayHold = Holds (functionOf (problemOf l)) (regionOf layout) (EdgeOf (problemOf l))
+
+      abbrev start : ℕ
+      start = functionOf (problemOf l) (from (problemOf l) i)
+
+      own : (b : ℕ) → start ≡ b → MayHold (to (problemOf l) i) b
+      own b e =
+          let (h, walk) = starts l ok i here in
+          subst (MayHold (to (problemOf l) i)) e
+          (held-first (functionOf (problemOf l)) (regionOf layout) (EdgeOf (problemOf l)) (from (problemOf l) i) (to (problemOf l) i) h walk
+          (mem-getD (edgesOf (problemOf l)) i zeroEdge here))
+
+      kept : (b : ℕ) → (Member (getD rivals start 0) b → ⊥) → MayHold (from (problemOf l) i) b → MayHold (to (problemOf l) i) b
+      kept b free holds =
+          by-bool (eqb start b) (λ t. own b (eqb-true start b t))
+          (λ n.
+          held-further (functionOf (problemOf l)) (regionOf layout) (EdgeOf (problemOf l)) (from (problemOf l) i) (to (problemOf l) i) b holds
+          (mem-getD (edgesOf (problemOf l)) i zeroEdge here)
+          (λ same. free (table .member start (start-known i here) b .1 (eqb-false start b n, held-known layout (from (problemOf l) i) b holds, sym same))))
+
+    pub latest-step : (i : ℕ) → i < length (edgesOf (problemOf l)) → (u v g add : ℕ) → u ≡ from (problemOf l) i → v ≡ to (problemOf l) i →
+        g ≡ functionOf (problemOf l) u → (ws after : List ℕ) (changed : Bool) →
+        ((b : ℕ) → Member add b ↔ ((b ≡ g) ⊎ ((Member (getD rivals g 0) b → ⊥) × Has ws u b))) →
+        Step (λ k b. (k ≡ v) × Member add b) ws after changed → Swept (Shown (problemOf l) rivals) (Passed (problemOf l) rivals i) ws after changed
+    latest-step i here u v g add is-u is-v is-g ws after changed members s =
+        by-step (Shown (problemOf l) rivals) (λ k b. (k ≡ v) × Member add b) (Passed (problemOf l) rivals i) ws after changed
+        good
+        (λ there b gain. subst (λ (k : ℕ). Has ws k b) is-v (there v b (refl, member b .1 gain)))
+        s
+      where
+        member : (b : ℕ) → Member add b ↔ Gains (problemOf l) rivals ws i b
+        member = rw (is-g, is-u) at members
+
+        good : Sound (Shown (problemOf l) rivals) ws → (k b : ℕ) → (k ≡ v) × Member add b → Shown (problemOf l) rivals k b
+        good sound k b (e, m) layout table =
+            subst (λ (x : ℕ). Holds (functionOf (problemOf l)) (regionOf layout) (EdgeOf (problemOf l)) x b) (sym (e ∙ is-v))
+            (⊎-elim (λ own-is. own i here layout table b (sym own-is))
+            (λ (free, has). kept i here layout table b free (sound (from (problemOf l) i) b has layout table))
+            (member b .0 m))
+
+    pub latest-table : (after : List ℕ) → Closed (Shown (problemOf l) rivals) (AllPassed (problemOf l) rivals) (replicate 128 0) after →
+        LatestTable (problemOf l) rivals after
+    latest-table after closed = record {
+      long = closed .grown .long ∙ length-replicate {A = ℕ} 128 0;
+      member = λ layout table v g. (
+        λ m. closed .grown .sound (λ k b h. absurd (empty k b h)) v g m layout table,
+        λ (h, walk, e). held-complete (functionOf (problemOf l)) (regionOf layout) (EdgeOf (problemOf l)) (Has after) (settled layout table) g walk e,
+      );
+    }
+      where
+        settled : (layout : List ℕ) → RivalTable (problemOf l) layout rivals → (u v : ℕ) → EdgeOf (problemOf l) u v →
+            Has after v (functionOf (problemOf l) u) ×
+            ((g : ℕ) → (regionOf layout (functionOf (problemOf l) u) ≡ regionOf layout g → ⊥) → Has after u g → Has after v g)
+        settled layout table u v d =
+            by-number (λ (x : Edge).
+            Has after (x .to) (functionOf (problemOf l) (x .from)) ×
+            ((g : ℕ) → (regionOf layout (functionOf (problemOf l) (x .from)) ≡ regionOf layout g → ⊥) → Has after (x .from) g → Has after (x .to) g))
+            (λ i here. (
+              closed .settled i here _ (inl refl),
+              λ g other has.
+              closed .settled i here g
+              (inr (λ rival. other (sym (table .member (functionOf (problemOf l) (from (problemOf l) i)) (start-known i here) g .0 rival .2)), has)),
+            ))
+            u v d

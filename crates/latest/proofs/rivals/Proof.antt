@@ -1,0 +1,80 @@
+-- `latest::rivals` has the others of the regions of the functions passed.
+use Prim.Native.Nat.{_-_, _≤_}
+use Rattle.model.specs.Numbers.{problemOf}
+use Rattle.lookup.proofs.Places.{few-functions}
+use Rattle.latest.specs.Rivals.{RivalsBelow}
+use Rattle.latest.proofs.Gathered.{no-rivals, one-rival, all-rivals}
+use borrow.Author.Needs.{needs}
+use native.Mathlib.Omega.{arith}
+use Rattle.latest.proofs.rivals.Statement.{statement}
+use Rattle.latest.proofs.rivals.Tie as tie
+
+abbrev Inv-loop : tie.InvT-loop
+Inv-loop l layout rivals₀ members count f₀ rivals f =
+    (f ≤ problemOf l .«function_count») × RivalsBelow layout (problemOf l .«function_count») f rivals
+
+abbrev μ-loop : tie.MeasureT-loop
+μ-loop l layout rivals₀ members count f₀ rivals f = count - f
+
+members-of-requires : tie.Need-members-of-requires Inv-loop μ-loop
+members-of-requires c κs = search needs
+
+function-count-requires : tie.Need-function-count-requires Inv-loop μ-loop
+function-count-requires c κs = search needs
+
+loop-holds : tie.Need-loop-holds Inv-loop μ-loop
+loop-holds c = (omega arith, no-rivals _ (c .before .before .before .before .pre .1 .1))
+
+region-of-requires : tie.Need-region-of-requires Inv-loop μ-loop
+region-of-requires c κs = search needs
+
+mul-others : tie.Need-mul-others Inv-loop μ-loop
+mul-others c = omega (arith, c .region-of .ensures, c .before .before .before .before .before .before .before .pre .1 .0 (c .before .before .loop .f) (omega arith))
+
+array-read-others : tie.Need-array-read-others Inv-loop μ-loop
+array-read-others c = omega (arith, c .region-of .ensures, c .before .before .before .before .before .before .before .pre .1 .0 (c .before .before .loop .f) (omega arith))
+
+others-requires : tie.Need-others-requires Inv-loop μ-loop
+others-requires c κs = omega (arith, few-functions _ (c .before .before .before .before .before .before .before .pre .0))
+
+mul-rivals : tie.Need-mul-rivals Inv-loop μ-loop
+mul-rivals c = omega (arith, few-functions _ (c .before .before .before .before .before .before .before .before .pre .0))
+
+element-write-rivals : tie.Need-element-write-rivals Inv-loop μ-loop
+element-write-rivals c = omega (arith, few-functions _ (c .before .before .before .before .before .before .before .before .pre .0))
+
+add-f : tie.Need-add-f Inv-loop μ-loop
+add-f c = search needs
+
+loop-less : tie.Need-loop-less Inv-loop μ-loop
+loop-less c = search needs
+
+loop-again : tie.Need-loop-again Inv-loop μ-loop
+loop-again c = (
+  omega arith,
+  one-rival _ _ (c .before .before .before .loop .inv .1) (c .before .before .before .before .before .members-of .ensures) (omega (arith, few-functions _ (c .before .before .before .before .before .before .before .before .pre .0)))
+      (omega (arith, c .before .region-of .ensures, c .before .before .before .before .before .before .before .before .pre .1 .0 (c .before .before .before .loop .f) (omega arith))) (c .before .region-of .ensures) (c .others .ensures),
+)
+
+returns : tie.Need-returns Inv-loop μ-loop
+returns c = all-rivals _ (c .before .loop .inv .1) (c .before .loop .inv .0) (omega arith)
+
+pub rivals-spec : {M : Type 1} → statement M
+rivals-spec =
+    tie.close
+    (tie.spec
+    Inv-loop
+    μ-loop
+    members-of-requires
+    function-count-requires
+    loop-holds
+    region-of-requires
+    mul-others
+    array-read-others
+    others-requires
+    mul-rivals
+    element-write-rivals
+    add-f
+    loop-less
+    loop-again
+    returns)

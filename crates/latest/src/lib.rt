@@ -1,0 +1,114 @@
+// What the regions may hold as a walk arrives at each vertex, by data flow over the edges until nothing changes. A set of functions is a word, its members
+// the word's bits.
+ghost use mathlib.Core.Path.{_≡_};
+ghost use mathlib.Core.Logic.{_⊎_, _↔_};
+ghost use Prim.Native.Nat.{ℕ, _<_};
+ghost use lib.ListN.{length};
+ghost use Rattle.model.specs.Numbers.{problemOf};
+ghost use Rattle.model.specs.Graph.{edgesOf};
+ghost use Rattle.model.specs.Operations.{Checked};
+ghost use Rattle.model.specs.Results.{Member};
+ghost use Rattle.interference.specs.Words.{Swept, Closed};
+ghost use Rattle.latest.specs.Rivals.{KnownRegions, Members, RivalTable};
+ghost use Rattle.latest.specs.Flow.{Shown, Passed, AllPassed, LatestTable};
+
+// The functions of each region.
+fn members_of(l: &[u64; 1446], layout: &[u8], members: &mut [u32; 32])
+    requires { ⌜ Checked (now l) ⌝ ∗ ⌜ KnownRegions (problemOf (now l)) (now layout) ⌝ }
+    ensures { λ _. ⌜ Members (now (layout .entry)) (problemOf (now (l .entry)) .«function_count») (now (members .exit)) ⌝ }
+{
+    *members = [0u32; 32];
+    let count = lookup::function_count(l);
+    let mut f: usize = 0;
+    while f < count {
+        let region = layout::region_of(layout, f);
+        members[region] = members[region] | (1u32 << f);
+        f += 1;
+    }
+}
+
+// The members of a word but f.
+fn others(word: u32, f: usize) -> u32
+    requires { ⌜ f < 32 ⌝ }
+    ensures { λ r. ⌜ ((b : ℕ) → Member r b ↔ ((f ≡ b → ⊥) × Member word b)) ⌝ }
+{
+    let only = 1u32 << f;
+    (word | only) ^ only
+}
+
+// For each function the others of its region.
+pub fn rivals(l: &[u64; 1446], layout: &[u8], rivals: &mut [u32; 32])
+    requires { ⌜ Checked (now l) ⌝ ∗ ⌜ KnownRegions (problemOf (now l)) (now layout) ⌝ ∗ ⌜ length (now rivals) ≡ 32 ⌝ }
+    ensures { λ _. ⌜ RivalTable (problemOf (now (l .entry))) (now (layout .entry)) (now (rivals .exit)) ⌝ }
+{
+    let mut members = [0u32; 32];
+    members_of(l, layout, &mut members);
+    let count = lookup::function_count(l);
+    let mut f: usize = 0;
+    while f < count {
+        let region = layout::region_of(layout, f);
+        rivals[f] = others(members[region], f);
+        f += 1;
+    }
+}
+
+// After a visit to a vertex of g: g, and the members of `word` that are no rivals of g.
+fn renewed(word: u32, rivals: u32, g: usize) -> u32
+    requires { ⌜ g < 32 ⌝ }
+    ensures { λ r. ⌜ ((b : ℕ) → Member r b ↔ ((b ≡ g) ⊎ ((Member rivals b → ⊥) × Member word b))) ⌝ }
+{
+    ((word | rivals) ^ rivals) | (1u32 << g)
+}
+
+// Over edge i, from u to v: v gains what u's word is after a visit to u. Whether that changed it.
+fn gain_latest(l: &[u64; 1446], i: usize, rivals: &[u32; 32], latest: &mut [u32]) -> bool
+    requires { ⌜ Checked (now l) ⌝ ∗ ⌜ i < length (edgesOf (problemOf (now l))) ⌝ ∗ ⌜ length (now latest) ≡ 128 ⌝ }
+    ensures { λ r. ⌜ Swept (Shown (problemOf (now (l .entry))) (now (rivals .entry))) (Passed (problemOf (now (l .entry))) (now (rivals .entry)) i) (now (latest .entry)) (now (latest .exit)) r ⌝ }
+{
+    let u = graph::edge_from(l, i);
+    let v = graph::edge_to(l, i);
+    let g = lookup::function_of(l, u);
+    let add = renewed(latest[u], rivals[g], g);
+    let old = latest[v];
+    let new = old | add;
+    if new == old {
+        return false;
+    }
+    latest[v] = new;
+    true
+}
+
+// Over every edge, in ascending order.
+fn sweep_latest(l: &[u64; 1446], rivals: &[u32; 32], latest: &mut [u32]) -> bool
+    requires { ⌜ Checked (now l) ⌝ ∗ ⌜ length (now latest) ≡ 128 ⌝ }
+    ensures { λ r. ⌜ Swept (Shown (problemOf (now (l .entry))) (now (rivals .entry))) (AllPassed (problemOf (now (l .entry))) (now (rivals .entry))) (now (latest .entry)) (now (latest .exit)) r ⌝ }
+{
+    let count = graph::edge_count(l);
+    let mut changed = false;
+    let mut i: usize = 0;
+    while i < count {
+        changed |= gain_latest(l, i, rivals, latest);
+        i += 1;
+    }
+    changed
+}
+
+// Sweeps until nothing changes.
+fn close_latest(l: &[u64; 1446], rivals: &[u32; 32], latest: &mut [u32])
+    requires { ⌜ Checked (now l) ⌝ ∗ ⌜ length (now latest) ≡ 128 ⌝ }
+    ensures { λ _. ⌜ Closed (Shown (problemOf (now (l .entry))) (now (rivals .entry))) (AllPassed (problemOf (now (l .entry))) (now (rivals .entry))) (now (latest .entry)) (now (latest .exit)) ⌝ }
+{
+    let mut changed = true;
+    while changed {
+        changed = sweep_latest(l, rivals, latest);
+    }
+}
+
+// For each vertex the functions that a walk may find held as it arrives there.
+pub fn latest(l: &[u64; 1446], rivals: &[u32; 32], latest: &mut [u32; 128])
+    requires { ⌜ Checked (now l) ⌝ }
+    ensures { λ _. ⌜ LatestTable (problemOf (now (l .entry))) (now (rivals .entry)) (now (latest .exit)) ⌝ }
+{
+    *latest = [0u32; 128];
+    close_latest(l, rivals, latest);
+}
