@@ -27,14 +27,14 @@ module _ (p : Problem) (flags fresh : List ℕ) where
     unfolding flagged
     as-fresh {g} unmarked of-v f = (
       λ m.
-      let (first, only) = and-members (getD fresh v 0) (2 ^ g) f .0 m in
-      let same : functionOf p v ≡ f = sym of-v ∙ sym (pow-only g f only) in
-      record { of = same; free = ne-eqb (getD flags v 0) 1 unmarked; first = rw same (eq-eqb (getD fresh v 0 / 2 ^ f % 2) 1 first) },
+          let (first, only) = and-members (getD fresh v 0) (2 ^ g) f .0 m in
+          let same : functionOf p v ≡ f = sym of-v ∙ sym (pow-only g f only) in
+          record { of = same; free = ne-eqb (getD flags v 0) 1 unmarked; first = rw same (eq-eqb (getD fresh v 0 / 2 ^ f % 2) 1 first) },
       λ early.
-      and-members (getD fresh v 0) (2 ^ g) f .1 (
-        eqb-true (getD fresh v 0 / 2 ^ f % 2) 1 (rw (early .of) at (early .first)),
-        rw (of-v ∙ early .of) (pow-member f),
-      ),
+          and-members (getD fresh v 0) (2 ^ g) f .1 (
+            eqb-true (getD fresh v 0 / 2 ^ f % 2) 1 (rw (early .of) at (early .first)),
+            rw (of-v ∙ early .of) (pow-member f),
+          ),
     )
 
   -- A pass over the vertices, each of which adds what it should.
@@ -46,11 +46,11 @@ module _ (p : Problem) (flags fresh : List ℕ) where
     more-cold add adds = record {
       member = λ f. (
         λ m.
-        ⊎-elim (λ old. let (u, below, early) = so-far .member f .0 old in (u, omega arith, early)) (λ new. (v, omega arith, adds f .0 new)) (or-only cold add f m),
+            ⊎-elim (λ old. let (u, below, early) = so-far .member f .0 old in (u, omega arith, early)) (λ new. (v, omega arith, adds f .0 new)) (or-only cold add f m),
         λ (u, below, early).
-        by-bool (eqb u v)
-        (λ t. or-right cold add f (adds f .1 (subst (EarlyAt p flags fresh f) (eqb-true u v t) early)))
-        (λ n. or-left cold add f (so-far .member f .1 (u, omega (arith, eqb-false u v n), early))),
+            by-bool (eqb u v)
+            (λ t. or-right cold add f (adds f .1 (subst (EarlyAt p flags fresh f) (eqb-true u v t) early)))
+            (λ n. or-left cold add f (so-far .member f .1 (u, omega (arith, eqb-false u v n), early))),
       );
     }
 

@@ -89,16 +89,16 @@ module _ {l : List ℕ} (checked : Checked l) where
       shared : (sharedTest rivals latest (problemOf l) v ≡ true) ↔ Contested (functionOf (problemOf l)) (EdgeOf (problemOf l)) (regionOf layout) v
       shared = (
         λ e.
-        let (g, held, rival) = common (getD latest v 0) (getD rivals f 0) .0 (ltb-true 0 _ e) in
-        let (ne, known, same) = is-rivals .member f own g .0 rival in
-        contested-held (functionOf (problemOf l)) (regionOf layout) (EdgeOf (problemOf l)) v .1 (g, (λ q. ne (sym q)), same, is-latest .member layout is-rivals v g .0 held),
+            let (g, held, rival) = common (getD latest v 0) (getD rivals f 0) .0 (ltb-true 0 _ e) in
+            let (ne, known, same) = is-rivals .member f own g .0 rival in
+            contested-held (functionOf (problemOf l)) (regionOf layout) (EdgeOf (problemOf l)) v .1 (g, (λ q. ne (sym q)), same, is-latest .member layout is-rivals v g .0 held),
         λ c.
-        let (g, ne, same, holds) = contested-held (functionOf (problemOf l)) (regionOf layout) (EdgeOf (problemOf l)) v .0 c in
-        lt-ltb 0 _ (common (getD latest v 0) (getD rivals f 0) .1 (
-          g,
-          is-latest .member layout is-rivals v g .1 holds,
-          is-rivals .member f own g .1 ((λ q. ne (sym q)), held-known l checked layout v g holds, same),
-        )),
+            let (g, ne, same, holds) = contested-held (functionOf (problemOf l)) (regionOf layout) (EdgeOf (problemOf l)) v .0 c in
+            lt-ltb 0 _ (common (getD latest v 0) (getD rivals f 0) .1 (
+              g,
+              is-latest .member layout is-rivals v g .1 holds,
+              is-rivals .member f own g .1 ((λ q. ne (sym q)), held-known l checked layout v g holds, same),
+            )),
       )
 
     early : (f : ℕ) → (bitTest cold f ≡ true) ↔ EarlyVertex (problemOf l) (sharedTest rivals latest (problemOf l)) (freshTest fresh (problemOf l)) f

@@ -118,7 +118,7 @@ module _ (l : List ℕ) (ok : Checked l) where
             (λ i here. (
               closed .settled i here _ (inl refl),
               λ g other has.
-              closed .settled i here g
-              (inr (λ rival. other (sym (table .member (functionOf (problemOf l) (from (problemOf l) i)) (start-known i here) g .0 rival .2)), has)),
+                  closed .settled i here g
+                  (inr (λ rival. other (sym (table .member (functionOf (problemOf l) (from (problemOf l) i)) (start-known i here) g .0 rival .2)), has)),
             ))
             u v d

@@ -43,8 +43,8 @@ module _ (layout : List ℕ) where
         there r g below other = (
           λ m. let (low, is) = members .member r g below .0 m in (omega arith, is),
           λ (low, is).
-          let ne : g ≡ f → ⊥ = λ e. other (sym is ∙ (rw e (sym region-is))) in
-          members .member r g below .1 (omega (arith, ne), is),
+              let ne : g ≡ f → ⊥ = λ e. other (sym is ∙ (rw e (sym region-is))) in
+              members .member r g below .1 (omega (arith, ne), is),
         )
 
         member : (r g : ℕ) → r < 32 → Member (getD (set ws region word) r 0) g ↔ ((g < f + 1) × (regionOf layout g ≡ r))
