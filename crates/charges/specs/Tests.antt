@@ -1,6 +1,6 @@
 -- Contested and cold, told by words: word f of `rivals` has the other functions of the region of f, word v of `latest` the functions that a walk to v may
 -- find held, word v of `fresh` those that it need not have visited. Flags keep a test's answers, 1 where it passes.
-use Prim.Native.Nat.{ℕ, _+_, _*_, _/_, _%_, _^_, _≤_, _<_}
+use Prim.Native.Nat.{ℕ, _*_, _/_, _%_, _^_, _≤_, _<_}
 use mathlib.Core.Path.{_≡_}
 use mathlib.Core.List.{List}
 use mathlib.Core.Bool.{Bool, true, false, cond}

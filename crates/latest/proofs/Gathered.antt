@@ -1,13 +1,12 @@
 -- The functions of each region, gathered in one pass, and from them for each function the others of its region.
 use Prim.Native.Nat.{ℕ, _+_, _≤_, _<_}
-use mathlib.Core.Path.{_≡_, refl, sym, subst, _∙_}
+use mathlib.Core.Path.{_≡_, sym, subst, _∙_}
 use mathlib.Core.List.{List}
 use mathlib.Core.Logic.{_⊎_, inl, inr, ⊎-elim, _↔_}
 use native.Mathlib.Omega.{arith}
 use lib.ListN.{length, getD, set, replicate, length-set, length-replicate, getD-replicate}
 use lib.Seq.{getD-set-same, getD-set-other}
 use lib.Dec.{eqb}
-use lib.Bits.{bitOr}
 use borrow.Author.Tests.{eqb-true, eqb-false}
 use borrow.Author.Count.{below-none, below-more}
 use Rattle.model.specs.Layouts.{regionOf}

@@ -1,6 +1,6 @@
 -- The largest sizes of the regions, found in one pass over the functions.
 use Prim.Native.Nat.{ℕ, _+_, _≤_, _<_, max}
-use mathlib.Core.Path.{_≡_, refl, sym, ap, _∙_}
+use mathlib.Core.Path.{_≡_, sym, ap, _∙_}
 use mathlib.Core.List.{List}
 use mathlib.Core.Bool.{cond}
 use native.Mathlib.Omega.{arith}

@@ -96,6 +96,3 @@ module _ (p : Problem) (l layout : List ℕ) (numbered : Numbered p l) (f : Fiel
     through need q =
         let rest = good-layout p layout (accepted-problem p l numbered f is size e) l (same-problem p l numbered f is) a judged need q in
         record { own = same-problem p l numbered f is; checked = opened p l numbered f is size e; good = rest .0; need-is = rest .1 }
-
-pub need-own : {p : Problem} {l layout : List ℕ} {need : Bytes} → Through p l layout need → need .0 ≡ needOf (problemOf l) layout
-need-own {layout = layout} {need = need} t = subst (λ (q : Problem). need .0 ≡ needOf q layout) (sym (t .own)) (t .need-is)
