@@ -18,10 +18,20 @@ function-of-requires : tie.Need-function-of-requires
 function-of-requires c κs = search needs
 
 mul-result : tie.Need-mul-result
-mul-result c = omega (arith, few-vertices _ (c .before .before .before .pre .0))
+mul-result c =
+    omega (
+      arith,
+      few-vertices _ (c .before .before .before .pre .0),
+      own-small _ (c .before .before .before .pre .0) _ (c .before .before .before .pre .1) (c .function-of .ensures),
+    )
 
 element-copy-out-result : tie.Need-element-copy-out-result
-element-copy-out-result c = omega (arith, few-vertices _ (c .before .before .before .pre .0))
+element-copy-out-result c =
+    omega (
+      arith,
+      few-vertices _ (c .before .before .before .pre .0),
+      own-small _ (c .before .before .before .pre .0) _ (c .before .before .before .pre .1) (c .function-of .ensures),
+    )
 
 cast-result : tie.Need-cast-result
 cast-result c = omega (arith, own-small _ (c .before .before .before .before .pre .0) _ (c .before .before .before .before .pre .1) (c .before .function-of .ensures))

@@ -29,10 +29,10 @@ region-of-requires : tie.Need-region-of-requires Inv-loop μ-loop
 region-of-requires c κs = search needs
 
 mul-others : tie.Need-mul-others Inv-loop μ-loop
-mul-others c = omega (arith, c .region-of .ensures, c .before .before .before .before .before .before .before .pre .1 .0 (c .before .before .loop .f) (omega arith))
+mul-others c = omega (arith, c .region-of .ensures, few-functions _ (c .before .before .before .before .before .before .before .pre .0), c .before .before .before .before .before .before .before .pre .1 .0 (c .before .before .loop .f) (omega arith))
 
 array-read-others : tie.Need-array-read-others Inv-loop μ-loop
-array-read-others c = omega (arith, c .region-of .ensures, c .before .before .before .before .before .before .before .pre .1 .0 (c .before .before .loop .f) (omega arith))
+array-read-others c = omega (arith, c .region-of .ensures, few-functions _ (c .before .before .before .before .before .before .before .pre .0), c .before .before .before .before .before .before .before .pre .1 .0 (c .before .before .loop .f) (omega arith))
 
 others-requires : tie.Need-others-requires Inv-loop μ-loop
 others-requires c κs = omega (arith, few-functions _ (c .before .before .before .before .before .before .before .pre .0))
