@@ -10,7 +10,7 @@ use lib.ListN.{length, getD, set, replicate, length-set, length-replicate}
 use lib.Seq.{getD-set-same, getD-set-other, set-getD}
 use lib.Dec.{eqb}
 use borrow.Author.Tests.{eqb-true, eqb-false}
-use Rattle.model.proofs.Cases.{by-bool, by-order, true-not-false}
+use Rattle.model.proofs.Cases.{by-bool, true-not-false}
 use Rattle.interference.specs.Words.{Has, sum, one, Grown, Step, Row, Sound}
 use Rattle.interference.specs.Rounds.{Flow, Marked, Passed, Flowing, Visited, Swept, Closed}
 use Rattle.interference.proofs.Steps.{unchanged, neither, grown-more}

@@ -8,8 +8,6 @@ ghost use mathlib.Core.Logic.{_⊎_, _↔_};
 ghost use Prim.Native.Nat.{ℕ, _+_, _*_, _≤_, _<_};
 ghost use lib.ListN.{length};
 ghost use Rattle.model.specs.Numbers.{problemOf};
-ghost use Rattle.model.specs.Graph.{edgesOf};
-ghost use Rattle.model.specs.Costs.{functionOf};
 ghost use Rattle.model.specs.Operations.{Checked};
 ghost use Rattle.model.specs.Results.{Member, InterferenceSays};
 ghost use Rattle.interference.specs.Words.{Step, Sound, Row, RowMember};

@@ -3,7 +3,6 @@ use mathlib.Core.Path.{refl}
 use Rattle.model.specs.Numbers.{problemOf}
 use Rattle.interference.proofs.Bounds.{few-functions}
 use Rattle.interference.proofs.Flows.{set-begun, set-table}
-use borrow.Author.Needs.{needs}
 use Rattle.interference.proofs.sets.Statement.{statement}
 use Rattle.interference.proofs.sets.Tie as tie
 
