@@ -8,19 +8,15 @@ use native.Mathlib.Nat.{suc-mul}
 use native.Mathlib.Omega.{arith}
 use lib.ListN.{length, getD, set, replicate, length-set, length-replicate}
 use lib.Seq.{getD-set-same, getD-set-other, set-getD}
-use lib.Dec.{eqb}
-use borrow.Author.Tests.{eqb-true, eqb-false}
 use Rattle.model.proofs.Cases.{by-bool, true-not-false}
 use Rattle.interference.specs.Words.{Has, sum, one, Grown, Step, Row, Sound}
 use Rattle.interference.specs.Rounds.{Flow, Marked, Passed, Flowing, Visited, Swept, Closed}
+use Rattle.interference.proofs.Bounds.{by-same}
 use Rattle.interference.proofs.Steps.{unchanged, neither, grown-more}
 
 -- A loop that has come to its end.
 pub all-done : (i count n : ℕ) → i ≤ count → count ≤ i → count ≡ n → i ≡ n
 all-done i count n low high e = omega arith
-
-by-same : {P : Type 0} (a b : ℕ) → (a ≡ b → P) → ((a ≡ b → ⊥) → P) → P
-by-same a b f g = by-bool (eqb a b) (λ e. f (eqb-true a b e)) (λ e. g (eqb-false a b e))
 
 -- A mark is set where something was gained.
 module _ (marks : List Bool) (v : ℕ) where

@@ -81,6 +81,13 @@ module _ (p : Problem) where
     pub member : (v f : ℕ) → v < p .«vertex_count» → f < p .«function_count» →
         Member (getD ws v 0) f ↔ Fresh (functionOf p) (EdgeOf p) f v
 
+  -- Of the edges below n: place x of the table is behind the last one from the vertex below x, or 0.
+  pub record Ends (n : ℕ) (behind : List ℕ) : Type 0 where
+    pub long : length behind ≡ 129
+    pub low : (x : ℕ) → getD behind x 0 ≤ n
+    pub last : (x k : ℕ) → getD behind x 0 ≡ k + 1 → from k + 1 ≡ x
+    pub past : (j : ℕ) → j < n → j < getD behind (from j + 1) 0
+
   -- The edges from u on begin at place i of the list.
   pub record Begins (u i : ℕ) : Type 0 where
     pub inside : i ≤ length (edgesOf p)

@@ -5,14 +5,15 @@ use model::Problem;
 use model::Refusal;
 ghost use mathlib.Core.Path.{_≡_};
 ghost use mathlib.Core.Logic.{_⊎_, _↔_};
-ghost use Prim.Native.Nat.{ℕ, _+_, _*_, _≤_, _<_};
+ghost use Prim.Native.Nat.{ℕ, _+_, _*_, _≤_, _<_, max};
 ghost use lib.ListN.{length};
 ghost use Rattle.model.specs.Numbers.{problemOf};
+ghost use Rattle.model.specs.Graph.{edgesOf};
 ghost use Rattle.model.specs.Operations.{Checked};
 ghost use Rattle.model.specs.Results.{Member, InterferenceSays};
 ghost use Rattle.interference.specs.Words.{Step, Sound, Row, RowMember};
 ghost use Rattle.interference.specs.Rounds.{Flowing, Visited, Swept, Closed};
-ghost use Rattle.interference.specs.Flows.{setAt, Leaves, InSet, setFlow, SetTable, IsFresh, freshFlow, FreshTable, Begins, Starts};
+ghost use Rattle.interference.specs.Flows.{setAt, Leaves, InSet, setFlow, SetTable, IsFresh, freshFlow, FreshTable, Ends, Starts};
 ghost use Rattle.interference.specs.Copies.{RowCopied, Copied, refusedWith};
 
 // The members of w but g.
@@ -82,34 +83,38 @@ fn gain_row(table: &mut [u32], v: usize, row: &[u32; 32]) -> bool
     changed
 }
 
-// Past the edges from u, which begin at i.
-fn past(l: &[u64; 1446], u: usize, i: usize) -> usize
-    requires { ⌜ Checked (now l) ⌝ ∗ ⌜ Begins (problemOf (now l)) u i ⌝ }
-    ensures { λ r. ⌜ Begins (problemOf (now (l .entry))) (u + 1) r ⌝ }
+fn larger(a: usize, b: usize) -> usize
+    ensures { λ r. ⌜ r ≡ max a b ⌝ }
 {
-    let count = graph::edge_count(l);
-    let mut next = i;
-    while next < count {
-        if graph::edge_from(l, next) != u {
-            return next;
-        }
-        next += 1;
-    }
-    next
+    if a < b { b } else { a }
 }
 
-// Where the edges from each vertex begin in the list. They stand together, since the list ascends.
+// Behind the last edge from each vertex, at the place after the vertex's own; 0 where it has none.
+fn ends(l: &[u64; 1446]) -> [usize; 129]
+    requires { ⌜ Checked (now l) ⌝ }
+    ensures { λ r. ⌜ Ends (problemOf (now (l .entry))) (length (edgesOf (problemOf (now (l .entry))))) r ⌝ }
+{
+    let count = graph::edge_count(l);
+    let mut behind = [0usize; 129];
+    let mut i: usize = 0;
+    while i < count {
+        let u = graph::edge_from(l, i);
+        i += 1;
+        behind[u + 1] = i;
+    }
+    behind
+}
+
+// Where the edges from each vertex begin in the list: behind the last one from a lower vertex, since the list ascends.
 fn starts(l: &[u64; 1446]) -> [usize; 129]
     requires { ⌜ Checked (now l) ⌝ }
     ensures { λ r. ⌜ Starts (problemOf (now (l .entry))) r ⌝ }
 {
-    let mut begins = [0usize; 129];
-    let mut i: usize = 0;
+    let mut begins = ends(l);
     let mut u: usize = 0;
     while u < 128 {
-        i = past(l, u, i);
+        begins[u + 1] = larger(begins[u + 1], begins[u]);
         u += 1;
-        begins[u] = i;
     }
     begins
 }
