@@ -1,3 +1,4 @@
 pub mod Words
+pub mod Rounds
 pub mod Flows
 pub mod Copies

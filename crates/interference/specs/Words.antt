@@ -1,5 +1,5 @@
--- Tables of words, the bits of a word being its members: what a step and a sweep over such a table do.
-use Prim.Native.Nat.{ℕ, _+_, _<_}
+-- Tables of words, the bits of a word being its members: what a step over such a table does.
+use Prim.Native.Nat.{ℕ, _+_, _≤_, _<_}
 use mathlib.Core.Path.{_≡_}
 use mathlib.Core.List.{List, [], _∷_}
 use mathlib.Core.Bool.{Bool, true, false}
@@ -16,33 +16,30 @@ unfoldable pub sum : List ℕ → ℕ
 sum [] = 0
 sum (w ∷ ws) = w + sum ws
 
+abbrev pub one : Bool → ℕ
+one true = 1
+one false = 0
+
+-- Members are only added. The sum does not fall, and it rises if a word changed.
+pub record Grown (ws after : List ℕ) (changed : Bool) : Type 0 where
+  pub raised : one changed + sum ws ≤ sum after
+  pub kept : (k b : ℕ) → Has ws k b → Has after k b
+
 -- A step adds the members that `Adds` names, and no other, and says whether that changed a word.
 pub record Step (Adds : ℕ → ℕ → Type 0) (ws after : List ℕ) (changed : Bool) : Type 0 where
   pub long : length after ≡ length ws
-  pub raised : changed ≡ true → sum ws < sum after
+  pub grown : Grown ws after changed
   pub same : changed ≡ false → after ≡ ws
-  pub kept : (k b : ℕ) → Has ws k b → Has after k b
   pub added : (k b : ℕ) → Adds k b → Has after k b
   pub only : (k b : ℕ) → Has after k b → Has ws k b ⊎ Adds k b
+
+-- The members that `In` names of the first n words of a row, whose word f stands at place `at f` of the table.
+abbrev pub Row : (ℕ → ℕ) → (ℕ → ℕ → Type 0) → ℕ → ℕ → ℕ → Type 0
+Row at In n k b = (f : ℕ) × ((f < n) × ((k ≡ at f) × In f b))
+
+abbrev pub RowMember : List ℕ → ℕ → ℕ → Type 0
+RowMember row f b = Member (getD row f 0) b
 
 -- Each member is one that it should be.
 abbrev pub Sound : (ℕ → ℕ → Type 0) → List ℕ → Type 0
 Sound Good ws = (k b : ℕ) → Has ws k b → Good k b
-
--- Members are only added, and only good ones.
-pub record Grown (Good : ℕ → ℕ → Type 0) (ws after : List ℕ) : Type 0 where
-  pub long : length after ≡ length ws
-  pub kept : (k b : ℕ) → Has ws k b → Has after k b
-  pub sound : Sound Good ws → Sound Good after
-
--- Steps one after the other. Where none changed a word, the table is settled: no step has anything left to add.
-pub record Swept (Good : ℕ → ℕ → Type 0) (Settled : List ℕ → Type 0) (ws after : List ℕ) (changed : Bool) : Type 0 where
-  pub grown : Grown Good ws after
-  pub raised : changed ≡ true → sum ws < sum after
-  pub same : changed ≡ false → after ≡ ws
-  pub settled : changed ≡ false → Settled after
-
--- Sweeps until nothing changes.
-pub record Closed (Good : ℕ → ℕ → Type 0) (Settled : List ℕ → Type 0) (ws after : List ℕ) : Type 0 where
-  pub grown : Grown Good ws after
-  pub settled : Settled after

@@ -5,24 +5,16 @@ use model::Problem;
 use model::Refusal;
 ghost use mathlib.Core.Path.{_≡_};
 ghost use mathlib.Core.Logic.{_⊎_, _↔_};
-ghost use Prim.Native.Nat.{ℕ, _+_, _*_, _≤_, _<_};
+ghost use Prim.Native.Nat.{ℕ, _+_, _*_, _≤_, _<_, max};
 ghost use lib.ListN.{length};
 ghost use Rattle.model.specs.Numbers.{problemOf};
 ghost use Rattle.model.specs.Graph.{edgesOf};
-ghost use Rattle.model.specs.Costs.{functionOf};
 ghost use Rattle.model.specs.Operations.{Checked};
 ghost use Rattle.model.specs.Results.{Member, InterferenceSays};
-ghost use Rattle.interference.specs.Words.{Step, Swept, Closed};
-ghost use Rattle.interference.specs.Flows.{SetGains, InSet, RowPassed, RowsPassed, SetTable, IsFresh, FreshPassed, AllFreshPassed, FreshTable};
+ghost use Rattle.interference.specs.Words.{Step, Sound, Row, RowMember};
+ghost use Rattle.interference.specs.Rounds.{Flowing, Visited, Swept, Closed};
+ghost use Rattle.interference.specs.Flows.{setAt, Leaves, InSet, setFlow, SetTable, IsFresh, freshFlow, FreshTable, Ends, Starts};
 ghost use Rattle.interference.specs.Copies.{RowCopied, Copied, refusedWith};
-
-// The members of w, and g.
-fn with(w: u32, g: usize) -> u32
-    requires { ⌜ g < 32 ⌝ }
-    ensures { λ r. ⌜ ((b : ℕ) → Member r b ↔ ((b ≡ g) ⊎ Member w b)) ⌝ }
-{
-    w | (1u32 << g)
-}
 
 // The members of w but g.
 fn without(w: u32, g: usize) -> u32
@@ -41,73 +33,151 @@ fn below(n: usize) -> u32
     0xFFFF_FFFF >> (32 - n)
 }
 
-// Word `at` gains the members of `add`. Whether that changed it.
+// Word `at` gains the members of `add`. Whether that changed it. It is stored either way: a row's words are then gained several at a time.
 fn gain(words: &mut [u32], at: usize, add: u32) -> bool
     requires { ⌜ at < length (now words) ⌝ }
     ensures { λ r. ⌜ Step (λ k b. (k ≡ at) × Member add b) (now (words .entry)) (now (words .exit)) r ⌝ }
 {
     let old = words[at];
     let new = old | add;
-    if new == old {
-        return false;
-    }
     words[at] = new;
-    true
+    new != old
 }
 
-// Over an edge from u, of function g, to v: the set of v and f gains that of u and f, and g; but not if g is f.
-fn gain_set(table: &mut [u32], u: usize, v: usize, f: usize, g: usize) -> bool
-    requires { ⌜ ((u < 128) × (v < 128)) × ((f < 32) × (g < 32)) ⌝ ∗ ⌜ length (now table) ≡ 4096 ⌝ }
-    ensures { λ r. ⌜ Step (SetGains (now (table .entry)) u v f g) (now (table .entry)) (now (table .exit)) r ⌝ }
+// What an edge from a vertex of function g brings to the set of f, where w is the vertex's own: the members of w, and g; but nothing if g is f.
+fn brought(w: u32, f: u32, g: u32) -> u32
+    requires { ⌜ g < 32 ⌝ }
+    ensures { λ r. ⌜ ((b : ℕ) → Member r b ↔ ((g ≡ f → ⊥) × ((b ≡ g) ⊎ Member w b))) ⌝ }
 {
-    if g == f {
-        return false;
+    if f == g {
+        return 0;
     }
-    let add = with(table[32 * u + f], g);
-    gain(table, 32 * v + f, add)
+    w | (1u32 << g)
 }
 
-// Over edge i: every set of its end gains. Whether any changed.
-fn gain_row(l: &[u64; 1446], i: usize, table: &mut [u32]) -> bool
-    requires { ⌜ Checked (now l) ⌝ ∗ ⌜ i < length (edgesOf (problemOf (now l))) ⌝ ∗ ⌜ length (now table) ≡ 4096 ⌝ }
-    ensures { λ r. ⌜ Swept (InSet (problemOf (now (l .entry)))) (RowPassed (problemOf (now (l .entry))) i) (now (table .entry)) (now (table .exit)) r ⌝ }
+// What edges from u, of function g, bring to each set of their ends.
+fn leaving(table: &[u32], u: usize, g: u32) -> [u32; 32]
+    requires { ⌜ (u < 128) × (g < 32) ⌝ ∗ ⌜ length (now table) ≡ 4096 ⌝ }
+    ensures { λ r. ⌜ Leaves (now (table .entry)) u g 32 r ⌝ }
 {
-    let u = graph::edge_from(l, i);
-    let v = graph::edge_to(l, i);
-    let g = lookup::function_of(l, u);
-    let count = lookup::function_count(l);
+    let mut row = [0u32; 32];
+    let mut f: u32 = 0;
+    while f < 32 {
+        row[f as usize] = brought(table[32 * u + f as usize], f, g);
+        f += 1;
+    }
+    row
+}
+
+// Every set of v gains its word of the row. Whether any changed.
+fn gain_row(table: &mut [u32], v: usize, row: &[u32; 32]) -> bool
+    requires { ⌜ v < 128 ⌝ ∗ ⌜ length (now table) ≡ 4096 ⌝ }
+    ensures { λ r. ⌜ Step (Row (setAt v) (RowMember (now (row .entry))) 32) (now (table .entry)) (now (table .exit)) r ⌝ }
+{
     let mut changed = false;
     let mut f: usize = 0;
-    while f < count {
-        changed |= gain_set(table, u, v, f, g);
+    while f < 32 {
+        changed |= gain(table, 32 * v + f, row[f]);
         f += 1;
     }
     changed
 }
 
-// Over every edge, in ascending order.
-fn sweep_sets(l: &[u64; 1446], table: &mut [u32]) -> bool
-    requires { ⌜ Checked (now l) ⌝ ∗ ⌜ length (now table) ≡ 4096 ⌝ }
-    ensures { λ r. ⌜ Swept (InSet (problemOf (now (l .entry)))) (RowsPassed (problemOf (now (l .entry)))) (now (table .entry)) (now (table .exit)) r ⌝ }
+fn larger(a: usize, b: usize) -> usize
+    ensures { λ r. ⌜ r ≡ max a b ⌝ }
+{
+    if a < b { b } else { a }
+}
+
+// Behind the last edge from each vertex, at the place after the vertex's own; 0 where it has none.
+fn ends(l: &[u64; 1446]) -> [usize; 129]
+    requires { ⌜ Checked (now l) ⌝ }
+    ensures { λ r. ⌜ Ends (problemOf (now (l .entry))) (length (edgesOf (problemOf (now (l .entry))))) r ⌝ }
 {
     let count = graph::edge_count(l);
-    let mut changed = false;
+    let mut behind = [0usize; 129];
     let mut i: usize = 0;
     while i < count {
-        changed |= gain_row(l, i, table);
+        let u = graph::edge_from(l, i);
         i += 1;
+        behind[u + 1] = i;
+    }
+    behind
+}
+
+// Where the edges from each vertex begin in the list: behind the last one from a lower vertex, since the list ascends.
+fn starts(l: &[u64; 1446]) -> [usize; 129]
+    requires { ⌜ Checked (now l) ⌝ }
+    ensures { λ r. ⌜ Starts (problemOf (now (l .entry))) r ⌝ }
+{
+    let mut begins = ends(l);
+    let mut u: usize = 0;
+    while u < 128 {
+        begins[u + 1] = larger(begins[u + 1], begins[u]);
+        u += 1;
+    }
+    begins
+}
+
+// If u is marked, its row goes on over its edges, and the ends that gain are marked. Whether any did.
+fn visit_sets(
+    l: &[u64; 1446],
+    starts: &[usize; 129],
+    u: usize,
+    table: &mut [u32],
+    marks: &mut [bool; 128],
+) -> bool
+    requires { ⌜ Checked (now l) ⌝ ∗ ⌜ Starts (problemOf (now l)) (now starts) ⌝ ∗ ⌜ u < problemOf (now l) .«vertex_count» ⌝ ∗ ⌜ Flowing (setFlow (problemOf (now l))) (now marks) (now table) ⌝ }
+    ensures { λ r. ⌜ Visited (setFlow (problemOf (now (l .entry)))) u (now (marks .entry)) (now (table .entry)) (now (marks .exit)) (now (table .exit)) r ⌝ }
+{
+    if !marks[u] {
+        return false;
+    }
+    marks[u] = false;
+    let row = leaving(table, u, lookup::function_of(l, u) as u32);
+    let last = starts[u + 1];
+    let mut changed = false;
+    let mut i = starts[u];
+    while i < last {
+        let v = graph::edge_to(l, i);
+        let grew = gain_row(table, v, &row);
+        marks[v] |= grew;
+        changed |= grew;
+        i += 1;
+    }
+    changed
+}
+
+// Every marked vertex, in ascending order.
+fn sweep_sets(
+    l: &[u64; 1446],
+    starts: &[usize; 129],
+    table: &mut [u32],
+    marks: &mut [bool; 128],
+) -> bool
+    requires { ⌜ Checked (now l) ⌝ ∗ ⌜ Starts (problemOf (now l)) (now starts) ⌝ ∗ ⌜ Flowing (setFlow (problemOf (now l))) (now marks) (now table) ⌝ }
+    ensures { λ r. ⌜ Swept (setFlow (problemOf (now (l .entry)))) (problemOf (now (l .entry)) .«vertex_count») (now (table .entry)) (now (marks .exit)) (now (table .exit)) r ⌝ }
+{
+    let count = graph::vertex_count(l);
+    let mut changed = false;
+    let mut u: usize = 0;
+    while u < count {
+        changed |= visit_sets(l, starts, u, table, marks);
+        u += 1;
     }
     changed
 }
 
 // Sweeps until nothing changes.
 fn close_sets(l: &[u64; 1446], table: &mut [u32])
-    requires { ⌜ Checked (now l) ⌝ ∗ ⌜ length (now table) ≡ 4096 ⌝ }
-    ensures { λ _. ⌜ Closed (InSet (problemOf (now (l .entry)))) (RowsPassed (problemOf (now (l .entry)))) (now (table .entry)) (now (table .exit)) ⌝ }
+    requires { ⌜ Checked (now l) ⌝ ∗ ⌜ length (now table) ≡ 4096 ⌝ ∗ ⌜ Sound (InSet (problemOf (now l))) (now table) ⌝ }
+    ensures { λ _. ⌜ Closed (setFlow (problemOf (now (l .entry)))) (now (table .entry)) (now (table .exit)) ⌝ }
 {
+    let begins = starts(l);
+    let mut marks = [true; 128];
     let mut changed = true;
     while changed {
-        changed = sweep_sets(l, table);
+        changed = sweep_sets(l, &begins, table, &mut marks);
     }
 }
 
@@ -120,38 +190,63 @@ pub fn sets(l: &[u64; 1446], table: &mut [u32; 4096])
     close_sets(l, table);
 }
 
-// Over edge i, from u to v: v gains what u has, but the function of u.
-fn gain_fresh(l: &[u64; 1446], i: usize, fresh: &mut [u32]) -> bool
-    requires { ⌜ Checked (now l) ⌝ ∗ ⌜ i < length (edgesOf (problemOf (now l))) ⌝ ∗ ⌜ length (now fresh) ≡ 128 ⌝ }
-    ensures { λ r. ⌜ Swept (IsFresh (problemOf (now (l .entry)))) (FreshPassed (problemOf (now (l .entry))) i) (now (fresh .entry)) (now (fresh .exit)) r ⌝ }
+// If u is marked, what its word has but its function goes on over its edges, and the ends that gain are marked. Whether any did.
+fn visit_fresh(
+    l: &[u64; 1446],
+    starts: &[usize; 129],
+    u: usize,
+    fresh: &mut [u32],
+    marks: &mut [bool; 128],
+) -> bool
+    requires { ⌜ Checked (now l) ⌝ ∗ ⌜ Starts (problemOf (now l)) (now starts) ⌝ ∗ ⌜ u < problemOf (now l) .«vertex_count» ⌝ ∗ ⌜ Flowing (freshFlow (problemOf (now l))) (now marks) (now fresh) ⌝ }
+    ensures { λ r. ⌜ Visited (freshFlow (problemOf (now (l .entry)))) u (now (marks .entry)) (now (fresh .entry)) (now (marks .exit)) (now (fresh .exit)) r ⌝ }
 {
-    let u = graph::edge_from(l, i);
-    let v = graph::edge_to(l, i);
+    if !marks[u] {
+        return false;
+    }
+    marks[u] = false;
     let add = without(fresh[u], lookup::function_of(l, u));
-    gain(fresh, v, add)
-}
-
-fn sweep_fresh(l: &[u64; 1446], fresh: &mut [u32]) -> bool
-    requires { ⌜ Checked (now l) ⌝ ∗ ⌜ length (now fresh) ≡ 128 ⌝ }
-    ensures { λ r. ⌜ Swept (IsFresh (problemOf (now (l .entry)))) (AllFreshPassed (problemOf (now (l .entry)))) (now (fresh .entry)) (now (fresh .exit)) r ⌝ }
-{
-    let count = graph::edge_count(l);
+    let last = starts[u + 1];
     let mut changed = false;
-    let mut i: usize = 0;
-    while i < count {
-        changed |= gain_fresh(l, i, fresh);
+    let mut i = starts[u];
+    while i < last {
+        let v = graph::edge_to(l, i);
+        let gained = gain(fresh, v, add);
+        marks[v] |= gained;
+        changed |= gained;
         i += 1;
     }
     changed
 }
 
-fn close_fresh(l: &[u64; 1446], fresh: &mut [u32])
-    requires { ⌜ Checked (now l) ⌝ ∗ ⌜ length (now fresh) ≡ 128 ⌝ }
-    ensures { λ _. ⌜ Closed (IsFresh (problemOf (now (l .entry)))) (AllFreshPassed (problemOf (now (l .entry)))) (now (fresh .entry)) (now (fresh .exit)) ⌝ }
+fn sweep_fresh(
+    l: &[u64; 1446],
+    starts: &[usize; 129],
+    fresh: &mut [u32],
+    marks: &mut [bool; 128],
+) -> bool
+    requires { ⌜ Checked (now l) ⌝ ∗ ⌜ Starts (problemOf (now l)) (now starts) ⌝ ∗ ⌜ Flowing (freshFlow (problemOf (now l))) (now marks) (now fresh) ⌝ }
+    ensures { λ r. ⌜ Swept (freshFlow (problemOf (now (l .entry)))) (problemOf (now (l .entry)) .«vertex_count») (now (fresh .entry)) (now (marks .exit)) (now (fresh .exit)) r ⌝ }
 {
+    let count = graph::vertex_count(l);
+    let mut changed = false;
+    let mut u: usize = 0;
+    while u < count {
+        changed |= visit_fresh(l, starts, u, fresh, marks);
+        u += 1;
+    }
+    changed
+}
+
+fn close_fresh(l: &[u64; 1446], fresh: &mut [u32])
+    requires { ⌜ Checked (now l) ⌝ ∗ ⌜ length (now fresh) ≡ 128 ⌝ ∗ ⌜ Sound (IsFresh (problemOf (now l))) (now fresh) ⌝ }
+    ensures { λ _. ⌜ Closed (freshFlow (problemOf (now (l .entry)))) (now (fresh .entry)) (now (fresh .exit)) ⌝ }
+{
+    let begins = starts(l);
+    let mut marks = [true; 128];
     let mut changed = true;
     while changed {
-        changed = sweep_fresh(l, fresh);
+        changed = sweep_fresh(l, &begins, fresh, &mut marks);
     }
 }
 

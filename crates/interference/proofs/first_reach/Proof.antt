@@ -1,8 +1,9 @@
 -- `first_reach` starts with every function at vertex 0 and closes the table: the members are those that walks show.
+use mathlib.Core.Path.{refl}
 use native.Mathlib.Omega.{arith}
 use Rattle.model.specs.Numbers.{problemOf}
 use Rattle.interference.proofs.Bounds.{some-function, few-functions}
-use Rattle.interference.proofs.Flows.{fresh-table}
+use Rattle.interference.proofs.Flows.{fresh-begun, fresh-table}
 use borrow.Author.Needs.{needs}
 use Rattle.interference.proofs.first_reach.Statement.{statement}
 use Rattle.interference.proofs.first_reach.Tie as tie
@@ -17,7 +18,7 @@ element-write-fresh : tie.Need-element-write-fresh
 element-write-fresh c = search needs
 
 close-fresh-requires : tie.Need-close-fresh-requires
-close-fresh-requires c κs = search needs
+close-fresh-requires c κs = (c .before .before .before .before .pre, (refl, fresh-begun (problemOf (c .before .before .before .before .args .l .now)) _))
 
 returns : tie.Need-returns
 returns c = fresh-table (problemOf (c .before .before .before .before .before .args .l .now)) _ _ (λ f lt. c .before .before .below .ensures f (omega (arith, c .before .before .before .function-count .ensures))) (c .close-fresh .ensures)

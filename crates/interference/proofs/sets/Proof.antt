@@ -1,13 +1,13 @@
 -- `sets` clears the table and closes it: the members are those that walks show.
+use mathlib.Core.Path.{refl}
 use Rattle.model.specs.Numbers.{problemOf}
 use Rattle.interference.proofs.Bounds.{few-functions}
-use Rattle.interference.proofs.Flows.{set-table}
-use borrow.Author.Needs.{needs}
+use Rattle.interference.proofs.Flows.{set-begun, set-table}
 use Rattle.interference.proofs.sets.Statement.{statement}
 use Rattle.interference.proofs.sets.Tie as tie
 
 close-sets-requires : tie.Need-close-sets-requires
-close-sets-requires c κs = search needs
+close-sets-requires c κs = (c .before .before .pre, (refl, set-begun (problemOf (c .before .before .args .l .now))))
 
 returns : tie.Need-returns
 returns c = set-table (problemOf (c .before .before .before .args .l .now)) _ (few-functions _ (c .before .before .before .pre)) (c .close-sets .ensures)

@@ -1,44 +1,44 @@
--- `sweep_fresh` does the steps of all edges.
+-- `sweep_fresh` visits one vertex after the other.
 use Prim.Native.Nat.{_≤_, _-_}
-use mathlib.Core.Path.{_∙_}
+use mathlib.Core.Path.{sym, _∙_}
 use native.Mathlib.Omega.{arith}
+use borrow.Author.Needs.{needs}
 use Rattle.model.specs.Numbers.{problemOf}
-use Rattle.interference.specs.Words.{Swept}
-use Rattle.interference.specs.Flows.{IsFresh, FreshPassed}
-use Rattle.interference.proofs.Bounds.{count-facts}
-use Rattle.interference.proofs.Sweeps.{Below, all-done, none-yet, one-more}
+use Rattle.interference.specs.Rounds.{Swept}
+use Rattle.interference.specs.Flows.{freshFlow}
+use Rattle.interference.proofs.Sweeps.{all-done, none-visited, one-visit}
 use Rattle.interference.proofs.sweep_fresh.Statement.{statement}
 use Rattle.interference.proofs.sweep_fresh.Tie as tie
 
 abbrev Inv-loop : tie.InvT-loop
-Inv-loop l fresh₀ count changed₀ i₀ fresh changed i = (i ≤ count) × Swept (IsFresh (problemOf l)) (Below (FreshPassed (problemOf l)) i) fresh₀ fresh changed
+Inv-loop l starts fresh₀ marks₀ count changed₀ u₀ fresh marks changed u = (u ≤ count) × Swept (freshFlow (problemOf l)) u fresh₀ marks fresh changed
 
 abbrev μ-loop : tie.MeasureT-loop
-μ-loop l fresh₀ count changed₀ i₀ fresh changed i = count - i
+μ-loop l starts fresh₀ marks₀ count changed₀ u₀ fresh marks changed u = count - u
 
-edge-count-requires : tie.Need-edge-count-requires Inv-loop μ-loop
-edge-count-requires c κs = count-facts _ (c .before .pre .0)
+vertex-count-requires : tie.Need-vertex-count-requires Inv-loop μ-loop
+vertex-count-requires c κs = search needs
 
 loop-holds : tie.Need-loop-holds Inv-loop μ-loop
-loop-holds c = (omega arith, none-yet _ _ _)
+loop-holds c = (omega arith, none-visited (freshFlow (problemOf (c .before .before .args .l .now))) _ _ (c .before .before .pre .1 .1))
 
-gain-fresh-requires : tie.Need-gain-fresh-requires Inv-loop μ-loop
-gain-fresh-requires c κs = (c .before .before .before .before .before .pre .0, (omega (arith, c .before .before .before .edge-count .ensures), c .before .before .loop .inv .1 .grown .long ∙ c .before .before .before .before .before .pre .1))
+visit-fresh-requires : tie.Need-visit-fresh-requires Inv-loop μ-loop
+visit-fresh-requires c κs = (c .before .before .before .before .before .before .pre .0, (c .before .before .before .before .before .before .pre .1 .0, (omega (arith, c .before .before .before .before .vertex-count .ensures, c .before .before .loop-test .taken), c .before .before .before .loop .inv .1 .flowing)))
 
-add-i : tie.Need-add-i Inv-loop μ-loop
-add-i c = omega arith
+add-u : tie.Need-add-u Inv-loop μ-loop
+add-u c = omega arith
 
 loop-less : tie.Need-loop-less Inv-loop μ-loop
 loop-less c = omega arith
 
 loop-again : tie.Need-loop-again Inv-loop μ-loop
-loop-again c = (omega arith, one-more _ _ _ _ _ _ _ _ (c .before .before .before .before .before .loop .inv .1) (c .before .before .gain-fresh .ensures))
+loop-again c = (omega arith, one-visit _ _ _ _ _ _ _ _ _ (c .before .before .before .before .before .before .loop .inv .1) (c .before .before .visit-fresh .ensures))
 
 same-length : tie.Need-same-length Inv-loop μ-loop
-same-length c = c .before .loop .inv .1 .grown .long
+same-length c = c .before .loop .inv .1 .flowing .long ∙ sym (c .before .before .before .before .pre .1 .1 .long)
 
 returns : tie.Need-returns Inv-loop μ-loop
-returns c = rw (all-done _ _ _ (c .before .loop .inv .0) (c .loop-test .left) (c .before .before .edge-count .ensures)) at (c .before .loop .inv .1)
+returns c = rw (all-done _ _ _ (c .before .loop .inv .0) (c .loop-test .left) (c .before .before .vertex-count .ensures)) at (c .before .loop .inv .1)
 
 pub sweep-fresh-spec : {M : Type 1} → statement M
 sweep-fresh-spec =
@@ -46,10 +46,10 @@ sweep-fresh-spec =
     (tie.spec
     Inv-loop
     μ-loop
-    edge-count-requires
+    vertex-count-requires
     loop-holds
-    gain-fresh-requires
-    add-i
+    visit-fresh-requires
+    add-u
     loop-less
     loop-again
     same-length

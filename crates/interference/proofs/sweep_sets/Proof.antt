@@ -1,44 +1,44 @@
--- `sweep_sets` does the steps of all edges.
+-- `sweep_sets` visits one vertex after the other.
 use Prim.Native.Nat.{_≤_, _-_}
-use mathlib.Core.Path.{_∙_}
+use mathlib.Core.Path.{sym, _∙_}
 use native.Mathlib.Omega.{arith}
+use borrow.Author.Needs.{needs}
 use Rattle.model.specs.Numbers.{problemOf}
-use Rattle.interference.specs.Words.{Swept}
-use Rattle.interference.specs.Flows.{InSet, RowPassed}
-use Rattle.interference.proofs.Bounds.{count-facts}
-use Rattle.interference.proofs.Sweeps.{Below, all-done, none-yet, one-more}
+use Rattle.interference.specs.Rounds.{Swept}
+use Rattle.interference.specs.Flows.{setFlow}
+use Rattle.interference.proofs.Sweeps.{all-done, none-visited, one-visit}
 use Rattle.interference.proofs.sweep_sets.Statement.{statement}
 use Rattle.interference.proofs.sweep_sets.Tie as tie
 
 abbrev Inv-loop : tie.InvT-loop
-Inv-loop l table₀ count changed₀ i₀ table changed i = (i ≤ count) × Swept (InSet (problemOf l)) (Below (RowPassed (problemOf l)) i) table₀ table changed
+Inv-loop l starts table₀ marks₀ count changed₀ u₀ table marks changed u = (u ≤ count) × Swept (setFlow (problemOf l)) u table₀ marks table changed
 
 abbrev μ-loop : tie.MeasureT-loop
-μ-loop l table₀ count changed₀ i₀ table changed i = count - i
+μ-loop l starts table₀ marks₀ count changed₀ u₀ table marks changed u = count - u
 
-edge-count-requires : tie.Need-edge-count-requires Inv-loop μ-loop
-edge-count-requires c κs = count-facts _ (c .before .pre .0)
+vertex-count-requires : tie.Need-vertex-count-requires Inv-loop μ-loop
+vertex-count-requires c κs = search needs
 
 loop-holds : tie.Need-loop-holds Inv-loop μ-loop
-loop-holds c = (omega arith, none-yet _ _ _)
+loop-holds c = (omega arith, none-visited (setFlow (problemOf (c .before .before .args .l .now))) _ _ (c .before .before .pre .1 .1))
 
-gain-row-requires : tie.Need-gain-row-requires Inv-loop μ-loop
-gain-row-requires c κs = (c .before .before .before .before .before .pre .0, (omega (arith, c .before .before .before .edge-count .ensures), c .before .before .loop .inv .1 .grown .long ∙ c .before .before .before .before .before .pre .1))
+visit-sets-requires : tie.Need-visit-sets-requires Inv-loop μ-loop
+visit-sets-requires c κs = (c .before .before .before .before .before .before .pre .0, (c .before .before .before .before .before .before .pre .1 .0, (omega (arith, c .before .before .before .before .vertex-count .ensures, c .before .before .loop-test .taken), c .before .before .before .loop .inv .1 .flowing)))
 
-add-i : tie.Need-add-i Inv-loop μ-loop
-add-i c = omega arith
+add-u : tie.Need-add-u Inv-loop μ-loop
+add-u c = omega arith
 
 loop-less : tie.Need-loop-less Inv-loop μ-loop
 loop-less c = omega arith
 
 loop-again : tie.Need-loop-again Inv-loop μ-loop
-loop-again c = (omega arith, one-more _ _ _ _ _ _ _ _ (c .before .before .before .before .before .loop .inv .1) (c .before .before .gain-row .ensures))
+loop-again c = (omega arith, one-visit _ _ _ _ _ _ _ _ _ (c .before .before .before .before .before .before .loop .inv .1) (c .before .before .visit-sets .ensures))
 
 same-length : tie.Need-same-length Inv-loop μ-loop
-same-length c = c .before .loop .inv .1 .grown .long
+same-length c = c .before .loop .inv .1 .flowing .long ∙ sym (c .before .before .before .before .pre .1 .1 .long)
 
 returns : tie.Need-returns Inv-loop μ-loop
-returns c = rw (all-done _ _ _ (c .before .loop .inv .0) (c .loop-test .left) (c .before .before .edge-count .ensures)) at (c .before .loop .inv .1)
+returns c = rw (all-done _ _ _ (c .before .loop .inv .0) (c .loop-test .left) (c .before .before .vertex-count .ensures)) at (c .before .loop .inv .1)
 
 pub sweep-sets-spec : {M : Type 1} → statement M
 sweep-sets-spec =
@@ -46,10 +46,10 @@ sweep-sets-spec =
     (tie.spec
     Inv-loop
     μ-loop
-    edge-count-requires
+    vertex-count-requires
     loop-holds
-    gain-row-requires
-    add-i
+    visit-sets-requires
+    add-u
     loop-less
     loop-again
     same-length
