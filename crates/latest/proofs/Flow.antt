@@ -2,7 +2,6 @@
 use Prim.Native.Nat.{ℕ, _<_}
 use mathlib.Core.Path.{_≡_, refl, sym, subst, _∙_}
 use mathlib.Core.List.{List}
-use mathlib.Core.Bool.{Bool}
 use mathlib.Core.Logic.{_⊎_, inl, inr, ⊎-elim, _↔_}
 use native.Mathlib.Omega.{arith}
 use lib.ListN.{length, getD, replicate, length-replicate, getD-replicate, List·getD-eq-default}
@@ -22,14 +21,15 @@ use Rattle.model.proofs.Lists.{mem-getD, index-of}
 use Rattle.lookup.proofs.Places.{function-below}
 use Rattle.sound.specs.Held.{Holds}
 use Rattle.sound.proofs.Held.{held-first, held-further, held-complete}
-use Rattle.interference.specs.Words.{Has, Step, Sound, Swept, Closed}
+use Rattle.interference.specs.Words.{Has, Sound}
+use Rattle.interference.specs.Rounds.{Closed}
 use Rattle.interference.specs.Flows.{from, to}
 use Rattle.interference.proofs.Bits.{none-in-zero}
 use Rattle.interference.proofs.Bounds.{from-below}
 use Rattle.interference.proofs.Reached.{starts}
-use Rattle.interference.proofs.Sweeps.{by-step}
+use Rattle.interference.proofs.Sweeps.{Laws}
 use Rattle.latest.specs.Rivals.{RivalTable}
-use Rattle.latest.specs.Flow.{Shown, Gains, Passed, AllPassed, LatestTable}
+use Rattle.latest.specs.Flow.{Shown, latestFlow, LatestTable}
 
 empty : (k b : ℕ) → Has (replicate 128 0) k b → ⊥
 empty k b h = none-in-zero b (subst (λ (w : ℕ). Member w b) all-zero h)
@@ -78,32 +78,27 @@ module _ (l : List ℕ) (ok : Checked l) where
           (mem-getD (edgesOf (problemOf l)) i zeroEdge here)
           (λ same. free (table .member start (start-known i here) b .1 (eqb-false start b n, held-known layout (from (problemOf l) i) b holds, sym same))))
 
-    pub latest-step : (i : ℕ) → i < length (edgesOf (problemOf l)) → (u v g add : ℕ) → u ≡ from (problemOf l) i → v ≡ to (problemOf l) i →
-        g ≡ functionOf (problemOf l) u → (ws after : List ℕ) (changed : Bool) →
+    pub latest-laws : Laws (latestFlow (problemOf l) rivals)
+    latest-laws = record {
+      apart = λ x v f h lt lt' e. e;
+      local = λ ws after u row f b lt. ⊎-elim inl (λ (free, has). inr (free, row f b lt has));
+      good = λ ws sound i here f b lt gain layout table.
+          ⊎-elim (λ e. own i here layout table b (sym e)) (λ (free, has). kept i here layout table b free (sound (from (problemOf l) i) b has layout table)) gain;
+    }
+
+    pub latest-brings : (ws : List ℕ) (u g add : ℕ) → g ≡ functionOf (problemOf l) u →
         ((b : ℕ) → Member add b ↔ ((b ≡ g) ⊎ ((Member (getD rivals g 0) b → ⊥) × Has ws u b))) →
-        Step (λ k b. (k ≡ v) × Member add b) ws after changed → Swept (Shown (problemOf l) rivals) (Passed (problemOf l) rivals i) ws after changed
-    latest-step i here u v g add is-u is-v is-g ws after changed members s =
-        by-step (Shown (problemOf l) rivals) (λ k b. (k ≡ v) × Member add b) (Passed (problemOf l) rivals i) ws after changed
-        good
-        (λ there b gain. subst (λ (k : ℕ). Has ws k b) is-v (there v b (refl, member b .1 gain)))
-        s
-      where
-        member : (b : ℕ) → Member add b ↔ Gains (problemOf l) rivals ws i b
-        member = rw (is-g, is-u) at members
+        (f b : ℕ) → f < 1 → Member add b ↔ latestFlow (problemOf l) rivals .Brings ws u f b
+    latest-brings ws u g add is-g members f b lt = (rw is-g at members) b
 
-        good : Sound (Shown (problemOf l) rivals) ws → (k b : ℕ) → (k ≡ v) × Member add b → Shown (problemOf l) rivals k b
-        good sound k b (e, m) layout table =
-            subst (λ (x : ℕ). Holds (functionOf (problemOf l)) (regionOf layout) (EdgeOf (problemOf l)) x b) (sym (e ∙ is-v))
-            (⊎-elim (λ own-is. own i here layout table b (sym own-is))
-            (λ (free, has). kept i here layout table b free (sound (from (problemOf l) i) b has layout table))
-            (member b .0 m))
+    pub latest-begun : Sound (Shown (problemOf l) rivals) (replicate 128 0)
+    latest-begun k b h = absurd (empty k b h)
 
-    pub latest-table : (after : List ℕ) → Closed (Shown (problemOf l) rivals) (AllPassed (problemOf l) rivals) (replicate 128 0) after →
-        LatestTable (problemOf l) rivals after
+    pub latest-table : (after : List ℕ) → Closed (latestFlow (problemOf l) rivals) (replicate 128 0) after → LatestTable (problemOf l) rivals after
     latest-table after closed = record {
-      long = closed .grown .long ∙ length-replicate {A = ℕ} 128 0;
+      long = closed .long ∙ length-replicate {A = ℕ} 128 0;
       member = λ layout table v g. (
-        λ m. closed .grown .sound (λ k b h. absurd (empty k b h)) v g m layout table,
+        λ m. closed .sound v g m layout table,
         λ (h, walk, e). held-complete (functionOf (problemOf l)) (regionOf layout) (EdgeOf (problemOf l)) (Has after) (settled layout table) g walk e,
       );
     }
@@ -116,9 +111,9 @@ module _ (l : List ℕ) (ok : Checked l) where
             Has after (x .to) (functionOf (problemOf l) (x .from)) ×
             ((g : ℕ) → (regionOf layout (functionOf (problemOf l) (x .from)) ≡ regionOf layout g → ⊥) → Has after (x .from) g → Has after (x .to) g))
             (λ i here. (
-              closed .settled i here _ (inl refl),
+              closed .passed i here 0 _ (omega arith) (inl refl),
               λ g other has.
-                  closed .settled i here g
+                  closed .passed i here 0 g (omega arith)
                   (inr (λ rival. other (sym (table .member (functionOf (problemOf l) (from (problemOf l) i)) (start-known i here) g .0 rival .2)), has)),
             ))
             u v d

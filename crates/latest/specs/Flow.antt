@@ -1,5 +1,5 @@
 -- What the regions may hold as data flow over the edges, on a table of rivals, and what the table of words holds in the end.
-use Prim.Native.Nat.{ℕ, _<_}
+use Prim.Native.Nat.{ℕ}
 use mathlib.Core.Path.{_≡_}
 use mathlib.Core.List.{List}
 use mathlib.Core.Logic.{_⊎_, _↔_}
@@ -12,6 +12,7 @@ use Rattle.model.specs.Layouts.{regionOf}
 use Rattle.model.specs.Results.{Member}
 use Rattle.sound.specs.Held.{Holds}
 use Rattle.interference.specs.Words.{Has}
+use Rattle.interference.specs.Rounds.{Flow}
 use Rattle.interference.specs.Flows.{from, to}
 use Rattle.latest.specs.Rivals.{RivalTable}
 
@@ -20,15 +21,22 @@ module _ (p : Problem) (rivals : List ℕ) where
   abbrev pub Shown : ℕ → ℕ → Type 0
   Shown k b = (layout : List ℕ) → RivalTable p layout rivals → Holds (functionOf p) (regionOf layout) (EdgeOf p) k b
 
-  -- Over edge i, from u, its end gains the function of u, and the members of word u that are no rivals of it.
+  -- Edges from u bring the function of u, and the members of word u that are no rivals of it.
   abbrev pub Gains : List ℕ → ℕ → ℕ → Type 0
-  Gains ws i b = (b ≡ functionOf p (from p i)) ⊎ ((Member (getD rivals (functionOf p (from p i)) 0) b → ⊥) × Has ws (from p i) b)
+  Gains ws u b = (b ≡ functionOf p u) ⊎ ((Member (getD rivals (functionOf p u) 0) b → ⊥) × Has ws u b)
 
-  abbrev pub Passed : ℕ → List ℕ → Type 0
-  Passed i ws = (b : ℕ) → Gains ws i b → Has ws (to p i) b
-
-  abbrev pub AllPassed : List ℕ → Type 0
-  AllPassed ws = (i : ℕ) → i < length (edgesOf p) → Passed i ws
+  -- The flow, in rows of one word.
+  abbrev pub latestFlow : Flow
+  latestFlow = record {
+    size = 128;
+    width = 1;
+    at = λ v f. v;
+    edges = length (edgesOf p);
+    from = from p;
+    to = to p;
+    Brings = λ ws u f b. Gains ws u b;
+    Good = Shown;
+  }
 
   -- Word v holds the functions that a walk may find held as it arrives at v.
   pub record LatestTable (ws : List ℕ) : Type 0 where

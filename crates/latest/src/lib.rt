@@ -5,12 +5,13 @@ ghost use mathlib.Core.Logic.{_⊎_, _↔_};
 ghost use Prim.Native.Nat.{ℕ, _<_};
 ghost use lib.ListN.{length};
 ghost use Rattle.model.specs.Numbers.{problemOf};
-ghost use Rattle.model.specs.Graph.{edgesOf};
 ghost use Rattle.model.specs.Operations.{Checked};
 ghost use Rattle.model.specs.Results.{Member};
-ghost use Rattle.interference.specs.Words.{Swept, Closed};
+ghost use Rattle.interference.specs.Words.{Sound};
+ghost use Rattle.interference.specs.Rounds.{Flowing, Visited, Swept, Closed};
+ghost use Rattle.interference.specs.Flows.{Starts};
 ghost use Rattle.latest.specs.Rivals.{KnownRegions, Members, RivalTable};
-ghost use Rattle.latest.specs.Flow.{Shown, Passed, AllPassed, LatestTable};
+ghost use Rattle.latest.specs.Flow.{Shown, latestFlow, LatestTable};
 
 // The functions of each region.
 fn members_of(l: &[u64; 1446], layout: &[u8], members: &mut [u32; 32])
@@ -60,47 +61,68 @@ fn renewed(word: u32, rivals: u32, g: usize) -> u32
     ((word | rivals) ^ rivals) | (1u32 << g)
 }
 
-// Over edge i, from u to v: v gains what u's word is after a visit to u. Whether that changed it.
-fn gain_latest(l: &[u64; 1446], i: usize, rivals: &[u32; 32], latest: &mut [u32]) -> bool
-    requires { ⌜ Checked (now l) ⌝ ∗ ⌜ i < length (edgesOf (problemOf (now l))) ⌝ ∗ ⌜ length (now latest) ≡ 128 ⌝ }
-    ensures { λ r. ⌜ Swept (Shown (problemOf (now (l .entry))) (now (rivals .entry))) (Passed (problemOf (now (l .entry))) (now (rivals .entry)) i) (now (latest .entry)) (now (latest .exit)) r ⌝ }
+// If u is marked, what its word is after a visit to u goes on over its edges, and the ends that gain are marked. Whether any did.
+fn visit_latest(
+    l: &[u64; 1446],
+    starts: &[usize; 129],
+    rivals: &[u32; 32],
+    u: usize,
+    latest: &mut [u32],
+    marks: &mut [bool; 128],
+) -> bool
+    requires { ⌜ Checked (now l) ⌝ ∗ ⌜ Starts (problemOf (now l)) (now starts) ⌝ ∗ ⌜ u < problemOf (now l) .«vertex_count» ⌝ ∗ ⌜ Flowing (latestFlow (problemOf (now l)) (now rivals)) (now marks) (now latest) ⌝ }
+    ensures { λ r. ⌜ Visited (latestFlow (problemOf (now (l .entry))) (now (rivals .entry))) u (now (marks .entry)) (now (latest .entry)) (now (marks .exit)) (now (latest .exit)) r ⌝ }
 {
-    let u = graph::edge_from(l, i);
-    let v = graph::edge_to(l, i);
-    let g = lookup::function_of(l, u);
-    let add = renewed(latest[u], rivals[g], g);
-    let old = latest[v];
-    let new = old | add;
-    if new == old {
+    if !marks[u] {
         return false;
     }
-    latest[v] = new;
-    true
+    marks[u] = false;
+    let g = lookup::function_of(l, u);
+    let add = renewed(latest[u], rivals[g], g);
+    let last = starts[u + 1];
+    let mut changed = false;
+    let mut i = starts[u];
+    while i < last {
+        let v = graph::edge_to(l, i);
+        let gained = interference::gain(latest, v, add);
+        marks[v] |= gained;
+        changed |= gained;
+        i += 1;
+    }
+    changed
 }
 
-// Over every edge, in ascending order.
-fn sweep_latest(l: &[u64; 1446], rivals: &[u32; 32], latest: &mut [u32]) -> bool
-    requires { ⌜ Checked (now l) ⌝ ∗ ⌜ length (now latest) ≡ 128 ⌝ }
-    ensures { λ r. ⌜ Swept (Shown (problemOf (now (l .entry))) (now (rivals .entry))) (AllPassed (problemOf (now (l .entry))) (now (rivals .entry))) (now (latest .entry)) (now (latest .exit)) r ⌝ }
+// Every marked vertex, in ascending order.
+fn sweep_latest(
+    l: &[u64; 1446],
+    starts: &[usize; 129],
+    rivals: &[u32; 32],
+    latest: &mut [u32],
+    marks: &mut [bool; 128],
+) -> bool
+    requires { ⌜ Checked (now l) ⌝ ∗ ⌜ Starts (problemOf (now l)) (now starts) ⌝ ∗ ⌜ Flowing (latestFlow (problemOf (now l)) (now rivals)) (now marks) (now latest) ⌝ }
+    ensures { λ r. ⌜ Swept (latestFlow (problemOf (now (l .entry))) (now (rivals .entry))) (problemOf (now (l .entry)) .«vertex_count») (now (latest .entry)) (now (marks .exit)) (now (latest .exit)) r ⌝ }
 {
-    let count = graph::edge_count(l);
+    let count = graph::vertex_count(l);
     let mut changed = false;
-    let mut i: usize = 0;
-    while i < count {
-        changed |= gain_latest(l, i, rivals, latest);
-        i += 1;
+    let mut u: usize = 0;
+    while u < count {
+        changed |= visit_latest(l, starts, rivals, u, latest, marks);
+        u += 1;
     }
     changed
 }
 
 // Sweeps until nothing changes.
 fn close_latest(l: &[u64; 1446], rivals: &[u32; 32], latest: &mut [u32])
-    requires { ⌜ Checked (now l) ⌝ ∗ ⌜ length (now latest) ≡ 128 ⌝ }
-    ensures { λ _. ⌜ Closed (Shown (problemOf (now (l .entry))) (now (rivals .entry))) (AllPassed (problemOf (now (l .entry))) (now (rivals .entry))) (now (latest .entry)) (now (latest .exit)) ⌝ }
+    requires { ⌜ Checked (now l) ⌝ ∗ ⌜ length (now latest) ≡ 128 ⌝ ∗ ⌜ Sound (Shown (problemOf (now l)) (now rivals)) (now latest) ⌝ }
+    ensures { λ _. ⌜ Closed (latestFlow (problemOf (now (l .entry))) (now (rivals .entry))) (now (latest .entry)) (now (latest .exit)) ⌝ }
 {
+    let begins = interference::starts(l);
+    let mut marks = [true; 128];
     let mut changed = true;
     while changed {
-        changed = sweep_latest(l, rivals, latest);
+        changed = sweep_latest(l, &begins, rivals, latest, &mut marks);
     }
 }
 

@@ -1,46 +1,45 @@
--- `latest::sweep_latest` does the steps of all edges.
+-- `latest::sweep_latest` visits one vertex after the other.
 use Prim.Native.Nat.{_≤_, _-_}
-use mathlib.Core.Path.{_∙_}
+use mathlib.Core.Path.{sym, _∙_}
 use Rattle.model.specs.Numbers.{problemOf}
-use Rattle.interference.specs.Words.{Swept}
-use Rattle.interference.proofs.Bounds.{count-facts}
-use Rattle.interference.proofs.Sweeps.{Below, all-done, none-yet, one-more}
-use Rattle.latest.specs.Flow.{Shown, Passed}
+use Rattle.interference.specs.Rounds.{Swept}
+use Rattle.interference.proofs.Sweeps.{all-done, none-visited, one-visit}
+use Rattle.latest.specs.Flow.{latestFlow}
 use borrow.Author.Needs.{needs}
 use native.Mathlib.Omega.{arith}
 use Rattle.latest.proofs.sweep_latest.Statement.{statement}
 use Rattle.latest.proofs.sweep_latest.Tie as tie
 
 abbrev Inv-loop : tie.InvT-loop
-Inv-loop l rivals latest₀ count changed₀ i₀ latest changed i =
-    (i ≤ count) × Swept (Shown (problemOf l) rivals) (Below (Passed (problemOf l) rivals) i) latest₀ latest changed
+Inv-loop l starts rivals latest₀ marks₀ count changed₀ u₀ latest marks changed u = (u ≤ count) × Swept (latestFlow (problemOf l) rivals) u latest₀ marks latest changed
 
 abbrev μ-loop : tie.MeasureT-loop
-μ-loop l rivals latest₀ count changed₀ i₀ latest changed i = count - i
+μ-loop l starts rivals latest₀ marks₀ count changed₀ u₀ latest marks changed u = count - u
 
-edge-count-requires : tie.Need-edge-count-requires Inv-loop μ-loop
-edge-count-requires c κs = count-facts _ (c .before .pre .0)
+vertex-count-requires : tie.Need-vertex-count-requires Inv-loop μ-loop
+vertex-count-requires c κs = search needs
 
 loop-holds : tie.Need-loop-holds Inv-loop μ-loop
-loop-holds c = (omega arith, none-yet _ _ _)
+loop-holds c = (omega arith, none-visited (latestFlow (problemOf (c .before .before .args .l .now)) (c .before .before .args .rivals .now)) _ _ (c .before .before .pre .1 .1))
 
-gain-latest-requires : tie.Need-gain-latest-requires Inv-loop μ-loop
-gain-latest-requires c κs = (c .before .before .before .before .before .pre .0, (omega (arith, c .before .before .before .edge-count .ensures), c .before .before .loop .inv .1 .grown .long ∙ c .before .before .before .before .before .pre .1))
+visit-latest-requires : tie.Need-visit-latest-requires Inv-loop μ-loop
+visit-latest-requires c κs =
+    (c .before .before .before .before .before .before .pre .0, (c .before .before .before .before .before .before .pre .1 .0, (omega (arith, c .before .before .before .before .vertex-count .ensures, c .before .before .loop-test .taken), c .before .before .before .loop .inv .1 .flowing)))
 
-add-i : tie.Need-add-i Inv-loop μ-loop
-add-i c = search needs
+add-u : tie.Need-add-u Inv-loop μ-loop
+add-u c = omega arith
 
 loop-less : tie.Need-loop-less Inv-loop μ-loop
-loop-less c = search needs
+loop-less c = omega arith
 
 loop-again : tie.Need-loop-again Inv-loop μ-loop
-loop-again c = (omega arith, one-more _ _ _ _ _ _ _ _ (c .before .before .before .before .before .loop .inv .1) (c .before .before .gain-latest .ensures))
+loop-again c = (omega arith, one-visit _ _ _ _ _ _ _ _ _ (c .before .before .before .before .before .before .loop .inv .1) (c .before .before .visit-latest .ensures))
 
 same-length : tie.Need-same-length Inv-loop μ-loop
-same-length c = c .before .loop .inv .1 .grown .long
+same-length c = c .before .loop .inv .1 .flowing .long ∙ sym (c .before .before .before .before .pre .1 .1 .long)
 
 returns : tie.Need-returns Inv-loop μ-loop
-returns c = rw (all-done _ _ _ (c .before .loop .inv .0) (c .loop-test .left) (c .before .before .edge-count .ensures)) at (c .before .loop .inv .1)
+returns c = rw (all-done _ _ _ (c .before .loop .inv .0) (c .loop-test .left) (c .before .before .vertex-count .ensures)) at (c .before .loop .inv .1)
 
 pub sweep-latest-spec : {M : Type 1} → statement M
 sweep-latest-spec =
@@ -48,10 +47,10 @@ sweep-latest-spec =
     (tie.spec
     Inv-loop
     μ-loop
-    edge-count-requires
+    vertex-count-requires
     loop-holds
-    gain-latest-requires
-    add-i
+    visit-latest-requires
+    add-u
     loop-less
     loop-again
     same-length
