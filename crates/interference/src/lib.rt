@@ -17,7 +17,7 @@ ghost use Rattle.interference.specs.Flows.{setAt, Leaves, InSet, setFlow
 ghost use Rattle.interference.specs.Copies.{RowCopied, Copied, refusedWith};
 
 // The members of w but g.
-fn without(w: u32, g: usize) -> u32
+pub fn without(w: u32, g: usize) -> u32
     requires { ⌜ g < 32 ⌝ }
     ensures { λ r. ⌜ ((b : ℕ) → Member r b ↔ ((g ≡ b → ⊥) × Member w b)) ⌝ }
 {

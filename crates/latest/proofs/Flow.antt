@@ -4,55 +4,40 @@ use mathlib.Core.Path.{_≡_, refl, sym, subst, _∙_}
 use mathlib.Core.List.{List}
 use mathlib.Core.Logic.{_⊎_, inl, inr, ⊎-elim, _↔_}
 use native.Mathlib.Omega.{arith}
-use lib.ListN.{length, getD, replicate, length-replicate, getD-replicate, List·getD-eq-default}
+use lib.ListN.{length, getD, replicate, length-replicate}
 use lib.Dec.{eqb}
 use borrow.Author.Tests.{eqb-true, eqb-false}
 use Rattle.model.specs.declared.Edge.{Edge}
-use Rattle.model.specs.Zero.{zeroEdge}
 use Rattle.model.specs.Numbers.{problemOf}
-use Rattle.model.specs.Graph.{edge, edgesOf}
+use Rattle.model.specs.Graph.{edgesOf}
 use Rattle.model.specs.Costs.{functionOf}
 use Rattle.model.specs.Walks.{EdgeOf}
 use Rattle.model.specs.Layouts.{regionOf}
 use Rattle.model.specs.Operations.{Checked}
 use Rattle.model.specs.Results.{Member}
-use Rattle.model.proofs.Cases.{by-bool, by-order}
-use Rattle.model.proofs.Lists.{mem-getD, index-of}
+use Rattle.model.proofs.Cases.{by-bool}
 use Rattle.lookup.proofs.Places.{function-below}
 use Rattle.sound.specs.Held.{Holds}
 use Rattle.sound.proofs.Held.{held-first, held-further, held-complete}
 use Rattle.interference.specs.Words.{Has, Sound}
 use Rattle.interference.specs.Rounds.{Closed}
 use Rattle.interference.specs.Flows.{from, to}
-use Rattle.interference.proofs.Bits.{none-in-zero}
 use Rattle.interference.proofs.Bounds.{from-below}
+use Rattle.interference.proofs.Flows.{empty, is-edge, by-number}
 use Rattle.interference.proofs.Reached.{starts}
 use Rattle.interference.proofs.Sweeps.{Laws}
 use Rattle.latest.specs.Rivals.{RivalTable}
 use Rattle.latest.specs.Flow.{Shown, latestFlow, LatestTable}
 
-empty : (k b : ℕ) → Has (replicate 128 0) k b → ⊥
-empty k b h = none-in-zero b (subst (λ (w : ℕ). Member w b) all-zero h)
-  where
-    all-zero : getD (replicate {A = ℕ} 128 0) k 0 ≡ 0
-    all-zero =
-        by-order k 128 (λ low. getD-replicate 128 k 0 0 low)
-        (λ high. List·getD-eq-default (replicate {A = ℕ} 128 0) 0 {n = k} (omega (arith, length-replicate {A = ℕ} 128 0)))
-
 module _ (l : List ℕ) (ok : Checked l) where
   start-known : (i : ℕ) → i < length (edgesOf (problemOf l)) → functionOf (problemOf l) (from (problemOf l) i) < problemOf l .«function_count»
   start-known i here = function-below l ok (from (problemOf l) i) (from-below l ok i here)
-
-  -- What holds of every edge by its number holds of every edge.
-  by-number : (P : Edge → Type 0) → ((i : ℕ) → i < length (edgesOf (problemOf l)) → P (edge (edgesOf (problemOf l)) i)) →
-      (u v : ℕ) → EdgeOf (problemOf l) u v → P (record { from = u; to = v })
-  by-number P all u v e = let r = index-of zeroEdge e in subst P (r .2) (all (r .0) (r .1))
 
   -- What is held is the function of a vertex on a walk.
   pub held-known : (layout : List ℕ) (v g : ℕ) → Holds (functionOf (problemOf l)) (regionOf layout) (EdgeOf (problemOf l)) v g → g < problemOf l .«function_count»
   held-known layout v g (h, walk, e) =
       held-complete (functionOf (problemOf l)) (regionOf layout) (EdgeOf (problemOf l)) (λ w x. x < problemOf l .«function_count»)
-      (λ u w d. (by-number (λ (x : Edge). functionOf (problemOf l) (x .from) < problemOf l .«function_count») start-known u w d, λ x other low. low)) g walk e
+      (λ u w d. (by-number (problemOf l) (λ (x : Edge). functionOf (problemOf l) (x .from) < problemOf l .«function_count») start-known u w d, λ x other low. low)) g walk e
 
   module _ (rivals : List ℕ) where
     -- A member that edge i brings to its end.
@@ -68,14 +53,14 @@ module _ (l : List ℕ) (ok : Checked l) where
           let (h, walk) = starts l ok i here in
           subst (MayHold (to (problemOf l) i)) e
           (held-first (functionOf (problemOf l)) (regionOf layout) (EdgeOf (problemOf l)) (from (problemOf l) i) (to (problemOf l) i) h walk
-          (mem-getD (edgesOf (problemOf l)) i zeroEdge here))
+          (is-edge (problemOf l) i here))
 
       kept : (b : ℕ) → (Member (getD rivals start 0) b → ⊥) → MayHold (from (problemOf l) i) b → MayHold (to (problemOf l) i) b
       kept b free holds =
           by-bool (eqb start b) (λ t. own b (eqb-true start b t))
           (λ n.
           held-further (functionOf (problemOf l)) (regionOf layout) (EdgeOf (problemOf l)) (from (problemOf l) i) (to (problemOf l) i) b holds
-          (mem-getD (edgesOf (problemOf l)) i zeroEdge here)
+          (is-edge (problemOf l) i here)
           (λ same. free (table .member start (start-known i here) b .1 (eqb-false start b n, held-known layout (from (problemOf l) i) b holds, sym same))))
 
     pub latest-laws : Laws (latestFlow (problemOf l) rivals)
@@ -92,7 +77,7 @@ module _ (l : List ℕ) (ok : Checked l) where
     latest-brings ws u g add is-g members f b lt = (rw is-g at members) b
 
     pub latest-begun : Sound (Shown (problemOf l) rivals) (replicate 128 0)
-    latest-begun k b h = absurd (empty k b h)
+    latest-begun k b h = absurd (empty 128 k b h)
 
     pub latest-table : (after : List ℕ) → Closed (latestFlow (problemOf l) rivals) (replicate 128 0) after → LatestTable (problemOf l) rivals after
     latest-table after closed = record {
@@ -107,7 +92,7 @@ module _ (l : List ℕ) (ok : Checked l) where
             Has after v (functionOf (problemOf l) u) ×
             ((g : ℕ) → (regionOf layout (functionOf (problemOf l) u) ≡ regionOf layout g → ⊥) → Has after u g → Has after v g)
         settled layout table u v d =
-            by-number (λ (x : Edge).
+            by-number (problemOf l) (λ (x : Edge).
             Has after (x .to) (functionOf (problemOf l) (x .from)) ×
             ((g : ℕ) → (regionOf layout (functionOf (problemOf l) (x .from)) ≡ regionOf layout g → ⊥) → Has after (x .from) g → Has after (x .to) g))
             (λ i here. (

@@ -28,15 +28,6 @@ fn members_of(l: &[u64; 1446], layout: &[u8], members: &mut [u32; 32])
     }
 }
 
-// The members of a word but f.
-fn others(word: u32, f: usize) -> u32
-    requires { ⌜ f < 32 ⌝ }
-    ensures { λ r. ⌜ ((b : ℕ) → Member r b ↔ ((f ≡ b → ⊥) × Member word b)) ⌝ }
-{
-    let only = 1u32 << f;
-    (word | only) ^ only
-}
-
 // For each function the others of its region.
 pub fn rivals(l: &[u64; 1446], layout: &[u8], rivals: &mut [u32; 32])
     requires { ⌜ Checked (now l) ⌝ ∗ ⌜ KnownRegions (problemOf (now l)) (now layout) ⌝ ∗ ⌜ length (now rivals) ≡ 32 ⌝ }
@@ -48,7 +39,7 @@ pub fn rivals(l: &[u64; 1446], layout: &[u8], rivals: &mut [u32; 32])
     let mut f: usize = 0;
     while f < count {
         let region = layout::region_of(layout, f);
-        rivals[f] = others(members[region], f);
+        rivals[f] = interference::without(members[region], f);
         f += 1;
     }
 }

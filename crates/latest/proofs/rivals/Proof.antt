@@ -28,14 +28,14 @@ loop-holds c = (omega arith, no-rivals _ (c .before .before .before .before .pre
 region-of-requires : tie.Need-region-of-requires Inv-loop μ-loop
 region-of-requires c κs = search needs
 
-mul-others : tie.Need-mul-others Inv-loop μ-loop
-mul-others c = omega (arith, c .region-of .ensures, few-functions _ (c .before .before .before .before .before .before .before .pre .0), c .before .before .before .before .before .before .before .pre .1 .0 (c .before .before .loop .f) (omega arith))
+mul-without : tie.Need-mul-without Inv-loop μ-loop
+mul-without c = omega (arith, c .region-of .ensures, few-functions _ (c .before .before .before .before .before .before .before .pre .0), c .before .before .before .before .before .before .before .pre .1 .0 (c .before .before .loop .f) (omega arith))
 
-array-read-others : tie.Need-array-read-others Inv-loop μ-loop
-array-read-others c = omega (arith, c .region-of .ensures, few-functions _ (c .before .before .before .before .before .before .before .pre .0), c .before .before .before .before .before .before .before .pre .1 .0 (c .before .before .loop .f) (omega arith))
+array-read-without : tie.Need-array-read-without Inv-loop μ-loop
+array-read-without c = omega (arith, c .region-of .ensures, few-functions _ (c .before .before .before .before .before .before .before .pre .0), c .before .before .before .before .before .before .before .pre .1 .0 (c .before .before .loop .f) (omega arith))
 
-others-requires : tie.Need-others-requires Inv-loop μ-loop
-others-requires c κs = omega (arith, few-functions _ (c .before .before .before .before .before .before .before .pre .0))
+without-requires : tie.Need-without-requires Inv-loop μ-loop
+without-requires c κs = omega (arith, few-functions _ (c .before .before .before .before .before .before .before .pre .0))
 
 mul-rivals : tie.Need-mul-rivals Inv-loop μ-loop
 mul-rivals c = omega (arith, few-functions _ (c .before .before .before .before .before .before .before .before .pre .0))
@@ -53,7 +53,7 @@ loop-again : tie.Need-loop-again Inv-loop μ-loop
 loop-again c = (
   omega arith,
   one-rival _ _ (c .before .before .before .loop .inv .1) (c .before .before .before .before .before .members-of .ensures) (omega (arith, few-functions _ (c .before .before .before .before .before .before .before .before .pre .0)))
-      (omega (arith, c .before .region-of .ensures, c .before .before .before .before .before .before .before .before .pre .1 .0 (c .before .before .before .loop .f) (omega arith))) (c .before .region-of .ensures) (c .others .ensures),
+      (omega (arith, c .before .region-of .ensures, c .before .before .before .before .before .before .before .before .pre .1 .0 (c .before .before .before .loop .f) (omega arith))) (c .before .region-of .ensures) (c .without .ensures),
 )
 
 returns : tie.Need-returns Inv-loop μ-loop
@@ -69,9 +69,9 @@ rivals-spec =
     function-count-requires
     loop-holds
     region-of-requires
-    mul-others
-    array-read-others
-    others-requires
+    mul-without
+    array-read-without
+    without-requires
     mul-rivals
     element-write-rivals
     add-f
