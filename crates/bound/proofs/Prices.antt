@@ -15,33 +15,32 @@ use Rattle.model.specs.Charges.{Told, visitCharge, firstLoads, charges}
 use Rattle.model.specs.Results.{boundLimit, BoundIs, PastTheLimit}
 use Rattle.model.proofs.Cases.{by-order}
 use Rattle.sound.proofs.Sound.{cycles-covered}
-use Rattle.interference.specs.Flows.{SetTable, FreshTable}
-use Rattle.charges.specs.Tests.{contestedBy, coldBy, flagged, coldFlagged, Tallied, Charged, LoadedFirst}
-use Rattle.charges.proofs.Marks.{charged-marked, first-loads-marked}
+use Rattle.interference.specs.Flows.{FreshTable}
+use Rattle.latest.specs.Rivals.{RivalTable}
+use Rattle.latest.specs.Flow.{LatestTable}
+use Rattle.charges.specs.Tests.{bitTest, contestedBy, flagged, Tallied, Charged, ColdWord, LoadedFirst}
+use Rattle.charges.proofs.Marks.{charged-marked}
 use Rattle.charges.proofs.Told.{walk-function, charges-table, told-by-tables}
 use Rattle.longest.specs.Tables.{cap}
 
-module _ (l : List ℕ) (ok : Checked l) (layout sets fresh flags charge : List ℕ) (tally : ℕ) (first greatest : Cycles)
-    (is-sets : SetTable (problemOf l) sets) (is-fresh : FreshTable (problemOf l) fresh)
-    (tallied : Tallied (problemOf l .«vertex_count») (contestedBy (problemOf l) layout sets) flags tally)
+module _ (l : List ℕ) (ok : Checked l) (layout rivals held fresh flags charge : List ℕ) (tally coldest : ℕ) (first greatest : Cycles)
+    (is-rivals : RivalTable (problemOf l) layout rivals) (is-held : LatestTable (problemOf l) rivals held) (is-fresh : FreshTable (problemOf l) fresh)
+    (tallied : Tallied (problemOf l .«vertex_count») (contestedBy (problemOf l) rivals held) flags tally)
     (charged : Charged (problemOf l) (flagged flags) charge)
-    (loaded : LoadedFirst (problemOf l) (coldFlagged (problemOf l) flags fresh) (first .0))
+    (is-cold : ColdWord (problemOf l) flags fresh coldest) (loaded : LoadedFirst (problemOf l) (bitTest coldest) (first .0))
     (exact : greatest .0 < cap → Greatest (problemOf l) (charges (λ v. getD charge v 0)) (greatest .0))
     (high : cap ≤ greatest .0 → (h : List ℕ) × Lawful (problemOf l) h × (cap ≤ charges (λ v. getD charge v 0) (lastVertex (problemOf l) ∷ h))) where
   abbrev contested : ℕ → Bool
-  contested = contestedBy (problemOf l) layout sets
+  contested = contestedBy (problemOf l) rivals held
 
   abbrev cold : ℕ → Bool
-  cold = coldBy (problemOf l) layout sets fresh
+  cold = bitTest coldest
 
   abbrev visits : List ℕ → ℕ
   visits = charges (visitCharge (problemOf l) contested)
 
   told : Told (problemOf l) layout contested cold
-  told = told-by-tables ok layout sets fresh (is-sets .member) (is-fresh .member)
-
-  first-is : first .0 ≡ firstLoads (problemOf l) cold
-  first-is = loaded .loads-are ∙ first-loads-marked (problemOf l) layout sets fresh (tallied .marked)
+  told = told-by-tables ok layout rivals held fresh flags coldest is-rivals is-held is-fresh (tallied .marked) is-cold
 
   same : (h : List ℕ) → Lawful (problemOf l) h → charges (λ v. getD charge v 0) (lastVertex (problemOf l) ∷ h) ≡ visits (lastVertex (problemOf l) ∷ h)
   same h lawful = charges-table ok (charged-marked (problemOf l) (tallied .marked) charged) (lawful .walk)
@@ -65,13 +64,13 @@ module _ (l : List ℕ) (ok : Checked l) (layout sets fresh flags charge : List 
           told = told;
           need-is = need-is;
           contested-are = tallied .tally-is;
-          first-is = first-is;
+          first-is = loaded .loads-are;
           greatest = greatest .0;
           greatest-is = g;
-          bound-is = sum ∙ ap (λ (x : ℕ). greatest .0 + x) first-is;
+          bound-is = sum ∙ ap (λ (x : ℕ). greatest .0 + x) (loaded .loads-are);
           within-limit = within;
           covers =
-              λ h lawful. omega (arith, g .above h lawful, first-is, cycles-covered (problemOf l) layout contested cold told (λ v h walk. walk-function ok walk) (lawful .walk));
+              λ h lawful. omega (arith, g .above h lawful, loaded .loads-are, cycles-covered (problemOf l) layout contested cold told (λ v h walk. walk-function ok walk) (lawful .walk));
         }
 
     past-by : (h : List ℕ) → Lawful (problemOf l) h → boundLimit < visits (lastVertex (problemOf l) ∷ h) + firstLoads (problemOf l) cold → PastTheLimit (problemOf l) layout
@@ -80,5 +79,5 @@ module _ (l : List ℕ) (ok : Checked l) (layout sets fresh flags charge : List 
     pub past : boundLimit < bound .0 → PastTheLimit (problemOf l) layout
     past over =
         by-order (greatest .0) cap
-        (λ low. let (h, lawful, is) = greatest-is low .reached in past-by h lawful (omega (arith, first-is)))
+        (λ low. let (h, lawful, is) = greatest-is low .reached in past-by h lawful (omega (arith, loaded .loads-are)))
         (λ reaches. let (h, lawful, most) = high reaches in past-by h lawful (omega (arith, same h lawful)))

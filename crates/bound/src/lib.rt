@@ -11,24 +11,28 @@ ghost use Rattle.model.specs.Numbers.{problemOf};
 ghost use Rattle.model.specs.Layouts.{needOf};
 ghost use Rattle.model.specs.Operations.{Checked};
 ghost use Rattle.model.specs.Results.{BoundSays};
+ghost use Rattle.latest.specs.Rivals.{KnownRegions};
 ghost use Rattle.bound.specs.Priced.{Priced};
 
 const LIMIT: u64 = 1_000_000_000_000_000_000;
 
-// What a layout that fits costs: the part of Bound after the checks, on sets that are computed once.
+// What a layout that fits costs: the part of Bound after the checks.
 pub fn price(l: &[u64; 1446], layout: &[u8], need: Bytes) -> BoundAnswer
-    requires { ⌜ Checked (now l) ⌝ ∗ ⌜ need .0 ≡ needOf (problemOf (now l)) (now layout) ⌝ }
+    requires { ⌜ Checked (now l) ⌝ ∗ ⌜ need .0 ≡ needOf (problemOf (now l)) (now layout) ⌝ ∗ ⌜ KnownRegions (problemOf (now l)) (now layout) ⌝ }
     ensures { λ r. ⌜ Priced (problemOf (now (l .entry))) (now (layout .entry)) r ⌝ }
 {
-    let mut sets = [0u32; 4096];
-    interference::sets(l, &mut sets);
+    let mut rivals = [0u32; 32];
+    latest::rivals(l, layout, &mut rivals);
+    let mut held = [0u32; 128];
+    latest::latest(l, &rivals, &mut held);
     let mut fresh = [0u32; 128];
     interference::first_reach(l, &mut fresh);
     let mut flags = [0u8; 128];
-    let contested = charges::mark_contested(l, layout, &sets, &mut flags);
+    let contested = charges::mark_contested(l, &rivals, &held, &mut flags);
     let mut charge = [0u64; 128];
     charges::fill_charges(l, &flags, &mut charge);
-    let first = charges::first_loads(l, &flags, &fresh);
+    let cold = charges::cold_functions(l, &flags, &fresh);
+    let first = charges::first_loads(l, cold);
     let greatest = longest::greatest_charges(l, &charge);
     let bound = charges::sum(greatest, first);
     if LIMIT < bound.0 {

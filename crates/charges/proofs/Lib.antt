@@ -1,6 +1,6 @@
 pub mod Sizes
 pub mod Answers
 pub mod Filling
-pub mod Agree
+pub mod Cold
 pub mod Marks
 pub mod Told

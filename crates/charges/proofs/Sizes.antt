@@ -1,5 +1,5 @@
 -- How large the visit charges and first loads of a checked problem are.
-use Prim.Native.Nat.{ℕ, _+_, _*_, _≤_, _<_}
+use Prim.Native.Nat.{ℕ, _+_, _≤_, _<_}
 use mathlib.Core.Path.{_≡_}
 use mathlib.Core.List.{List}
 use mathlib.Core.Bool.{Bool, cond}
@@ -9,7 +9,7 @@ use Rattle.model.specs.Operations.{Checked}
 use Rattle.model.specs.Costs.{functionOf, ownCost, loadCost, total}
 use Rattle.model.specs.Charges.{visitCharge, firstLoads}
 use Rattle.model.proofs.Cases.{by-cond}
-use Rattle.lookup.proofs.Places.{few-functions, few-vertices, load-high, function-below, cost-high}
+use Rattle.lookup.proofs.Places.{few-functions, load-high, function-below, cost-high}
 use Rattle.layout.proofs.Sums.{Upto, total-more, total-high}
 use Rattle.charges.specs.Tests.{chargeLimit, firstLoad, firstLimit, LoadedFirst}
 
@@ -18,13 +18,12 @@ module _ (l : List ℕ) (checked : Checked l) where
   load-or-none : (t : Bool) (f : ℕ) → f < problemOf l .«function_count» → cond t (loadCost (problemOf l) f) 0 ≤ 16777215
   load-or-none t f below = by-cond (λ (x : ℕ). x ≤ 16777215) t (λ e. load-high l checked f below) (λ e. omega arith)
 
-  -- The word of a vertex and its own function.
-  pub word-below : (v : ℕ) → v < problemOf l .«vertex_count» → 32 * v + functionOf (problemOf l) v < 4096
-  word-below v below = omega (arith, few-vertices l checked, few-functions l checked, function-below l checked v below)
-
   module _ (v : ℕ) (below : v < problemOf l .«vertex_count») {f : ℕ} (of-v : f ≡ functionOf (problemOf l) v) where
     pub own-function : Checked l × (f < problemOf l .«function_count»)
     own-function = (checked, omega (arith, function-below l checked v below))
+
+    pub own-small : f < 32
+    own-small = omega (arith, own-function .1, few-functions l checked)
 
     pub cost-and-load : ownCost (problemOf l) v + loadCost (problemOf l) f ≤ chargeLimit
     cost-and-load = omega (arith, cost-high l checked v below, load-high l checked f (own-function .1))

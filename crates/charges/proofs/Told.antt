@@ -1,4 +1,4 @@
--- Tables that hold the interference sets and the first reach of a checked problem tell which vertices are contested and which functions are cold; and
+-- Tables that hold what regions may hold and the first reach of a checked problem tell which vertices are contested and which functions are cold; and
 -- its walks stay among its vertices, so that charges which agree there come to the same.
 use Prim.Native.Nat.{ℕ, _+_, _*_, _/_, _%_, _^_, _<_}
 use mathlib.Core.Path.{_≡_, refl, sym, ap, _∙_}
@@ -7,22 +7,31 @@ use mathlib.Core.Bool.{Bool, true}
 use mathlib.Core.Logic.{_↔_}
 use native.Mathlib.Omega.{arith}
 use lib.ListN.{getD}
-use borrow.Author.Tests.{eqb-true, eq-eqb}
+use borrow.Author.Tests.{eqb-true, eq-eqb, ltb-true, lt-ltb}
 use Rattle.model.specs.declared.Edge.{Edge}
 use Rattle.model.specs.Zero.{zeroEdge}
 use Rattle.model.specs.Numbers.{problemOf}
 use Rattle.model.specs.Operations.{Checked}
 use Rattle.model.specs.Costs.{functionOf}
 use Rattle.model.specs.Walks.{EdgeOf, Walk, start, step}
-use Rattle.model.specs.Interference.{Interferes, Fresh}
+use Rattle.model.specs.Layouts.{regionOf}
+use Rattle.model.specs.Interference.{Contested}
 use Rattle.model.specs.Charges.{Told, visitCharge, charges}
 use Rattle.model.specs.Results.{Member}
 use Rattle.model.proofs.Lists.{index-of}
 use Rattle.lookup.proofs.Places.{facts, vertex-count, function-below}
 use Rattle.graph.specs.Counts.{Counted}
 use Rattle.graph.proofs.Places.{edge-count, edge-at}
-use Rattle.sound.proofs.Decide.{Tables, told}
-use Rattle.charges.specs.Tests.{bitTest, memberTest, freshTest, contestedBy, coldBy, Charged}
+use Rattle.sound.specs.Decide.{EarlyVertex}
+use Rattle.sound.proofs.Held.{contested-held}
+use Rattle.sound.proofs.Decide.{told}
+use Rattle.interference.specs.Flows.{FreshTable}
+use Rattle.latest.specs.Rivals.{RivalTable}
+use Rattle.latest.specs.Flow.{LatestTable}
+use Rattle.latest.proofs.Bits.{common}
+use Rattle.latest.proofs.Flow.{held-known}
+use Rattle.charges.specs.Tests.{bitTest, freshTest, sharedTest, contestedBy, Marked, ColdWord, Charged}
+use Rattle.charges.proofs.Marks.{marked-flag}
 
 -- A bit's test, for what its being set says.
 told-by-bit : (word g : ℕ) {P : Type 0} → Member word g ↔ P → (bitTest word g ≡ true) ↔ P
@@ -67,20 +76,45 @@ module _ {l : List ℕ} (checked : Checked l) where
       charges (λ u. getD charge u 0) (v ∷ h) ≡ charges (visitCharge (problemOf l) test) (v ∷ h)
   charges-table {test} {charge} charged walk = charges-agree (λ u. getD charge u 0) (visitCharge (problemOf l) test) (charged .charged) walk
 
-  module _ (layout sets fresh : List ℕ)
-      (sets-hold : (v f g : ℕ) → v < problemOf l .«vertex_count» → f < problemOf l .«function_count» →
-      Member (getD sets (32 * v + f) 0) g ↔ Interferes (functionOf (problemOf l)) (EdgeOf (problemOf l)) v f g)
-      (fresh-holds : (v f : ℕ) → v < problemOf l .«vertex_count» → f < problemOf l .«function_count» →
-      Member (getD fresh v 0) f ↔ Fresh (functionOf (problemOf l)) (EdgeOf (problemOf l)) f v) where
-    tables : Tables (problemOf l) (memberTest sets (problemOf l)) (freshTest fresh (problemOf l))
-    tables =
-        record {
-          vertex = λ v h walk. walk-below walk;
-          function = λ v h walk. walk-function walk;
-          member = λ v g below. told-by-bit _ g (sets-hold v (functionOf (problemOf l) v) g below (function-below l checked v below));
-          reached = λ v below. told-by-bit (getD fresh v 0) _ (fresh-holds v (functionOf (problemOf l) v) below (function-below l checked v below));
-        }
+  module _ (layout rivals latest fresh flags : List ℕ) (cold : ℕ) (is-rivals : RivalTable (problemOf l) layout rivals)
+      (is-latest : LatestTable (problemOf l) rivals latest) (is-fresh : FreshTable (problemOf l) fresh)
+      (marked : Marked (problemOf l .«vertex_count») (contestedBy (problemOf l) rivals latest) flags) (is-cold : ColdWord (problemOf l) flags fresh cold) where
+    module _ (v : ℕ) (below : v < problemOf l .«vertex_count») where
+      abbrev f : ℕ
+      f = functionOf (problemOf l) v
 
-    pub told-by-tables : Told (problemOf l) layout (contestedBy (problemOf l) layout sets) (coldBy (problemOf l) layout sets fresh)
-    unfolding contestedBy coldBy
-    told-by-tables = told (problemOf l) layout (memberTest sets (problemOf l)) (freshTest fresh (problemOf l)) tables
+      own : f < problemOf l .«function_count»
+      own = function-below l checked v below
+
+      shared : (sharedTest rivals latest (problemOf l) v ≡ true) ↔ Contested (functionOf (problemOf l)) (EdgeOf (problemOf l)) (regionOf layout) v
+      shared = (
+        λ e.
+            let (g, held, rival) = common (getD latest v 0) (getD rivals f 0) .0 (ltb-true 0 _ e) in
+            let (ne, known, same) = is-rivals .member f own g .0 rival in
+            contested-held (functionOf (problemOf l)) (regionOf layout) (EdgeOf (problemOf l)) v .1 (g, (λ q. ne (sym q)), same, is-latest .member layout is-rivals v g .0 held),
+        λ c.
+            let (g, ne, same, holds) = contested-held (functionOf (problemOf l)) (regionOf layout) (EdgeOf (problemOf l)) v .0 c in
+            lt-ltb 0 _ (common (getD latest v 0) (getD rivals f 0) .1 (
+              g,
+              is-latest .member layout is-rivals v g .1 holds,
+              is-rivals .member f own g .1 ((λ q. ne (sym q)), held-known l checked layout v g holds, same),
+            )),
+      )
+
+    early : (f : ℕ) → (bitTest cold f ≡ true) ↔ EarlyVertex (problemOf l) (sharedTest rivals latest (problemOf l)) (freshTest fresh (problemOf l)) f
+    unfolding contestedBy
+    early f = told-by-bit cold f (
+      λ m. let (v, below, is) = is-cold .member f .0 m in (v, below, is .of, sym (marked-flag marked v below) ∙ is .free, is .first),
+      λ (v, below, of-f, free, first). is-cold .member f .1 (v, below, record { of = of-f; free = marked-flag marked v below ∙ free; first = first }),
+    )
+
+    pub told-by-tables : Told (problemOf l) layout (contestedBy (problemOf l) rivals latest) (bitTest cold)
+    unfolding contestedBy
+    told-by-tables =
+        told (problemOf l) layout (sharedTest rivals latest (problemOf l)) (freshTest fresh (problemOf l)) (bitTest cold)
+        (record {
+          vertex = λ v h walk. walk-below walk;
+          contested = shared;
+          reached = λ v below. told-by-bit (getD fresh v 0) _ (is-fresh .member v (functionOf (problemOf l) v) below (function-below l checked v below));
+          early = early;
+        })

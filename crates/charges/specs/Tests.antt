@@ -1,38 +1,33 @@
--- Contested and cold, told by words: word 32 * v + f of `sets` is the interference set of v and f, word v of `fresh` the functions that a walk to v need
--- not have visited. Flags keep a test's answers, 1 where it passes.
-use Prim.Native.Nat.{ℕ, _+_, _*_, _/_, _%_, _^_, _≤_, _<_}
+-- Contested and cold, told by words: word f of `rivals` has the other functions of the region of f, word v of `latest` the functions that a walk to v may
+-- find held, word v of `fresh` those that it need not have visited. Flags keep a test's answers, 1 where it passes.
+use Prim.Native.Nat.{ℕ, _*_, _/_, _%_, _^_, _≤_, _<_}
 use mathlib.Core.Path.{_≡_}
 use mathlib.Core.List.{List}
-use mathlib.Core.Bool.{Bool, not, _&&_, cond}
+use mathlib.Core.Bool.{Bool, true, false, cond}
+use mathlib.Core.Logic.{_↔_}
 use lib.ListN.{length, getD}
 use lib.Dec.{eqb, ltb}
+use lib.Bits.{bitAnd}
 use Rattle.model.specs.declared.Problem.{Problem}
-use Rattle.model.specs.Search.{existsBelow}
 use Rattle.model.specs.Costs.{functionOf, loadCost, howMany}
 use Rattle.model.specs.Charges.{visitCharge, firstLoads}
-use Rattle.sound.specs.Decide.{rivalTest, contestedTest, coldTest}
+use Rattle.model.specs.Results.{Member}
+use Rattle.sound.specs.Decide.{contestedTest}
 
 -- Bit g of a word is set.
 abbrev pub bitTest : ℕ → ℕ → Bool
 bitTest word g = eqb (word / 2 ^ g % 2) 1
 
--- The interference set of v and its own function has g.
-abbrev pub memberTest : List ℕ → Problem → ℕ → ℕ → Bool
-memberTest ws p v g = bitTest (getD ws (32 * v + functionOf p v) 0) g
-
 -- A walk comes to v with no earlier vertex of its function.
 abbrev pub freshTest : List ℕ → Problem → ℕ → Bool
 freshTest ws p v = bitTest (getD ws v 0) (functionOf p v)
 
--- g is in that set, and in the region of v's function.
-unfoldable pub rivalBy : Problem → List ℕ → List ℕ → ℕ → ℕ → Bool
-rivalBy p layout sets v g = rivalTest p layout (memberTest sets p) v g
+-- A walk may come to v with a rival of its function held.
+abbrev pub sharedTest : List ℕ → List ℕ → Problem → ℕ → Bool
+sharedTest rivals latest p v = ltb 0 (bitAnd (getD latest v 0) (getD rivals (functionOf p v) 0))
 
 unfoldable pub contestedBy : Problem → List ℕ → List ℕ → ℕ → Bool
-contestedBy p layout sets = contestedTest p layout (memberTest sets p)
-
-unfoldable pub coldBy : Problem → List ℕ → List ℕ → List ℕ → ℕ → Bool
-coldBy p layout sets fresh = coldTest p layout (memberTest sets p) (freshTest fresh p)
+contestedBy p rivals latest = contestedTest p (sharedTest rivals latest p)
 
 -- The flags keep a test's answers for the numbers below n.
 pub record Marked (n : ℕ) (test : ℕ → Bool) (flags : List ℕ) : Type 0 where
@@ -49,11 +44,18 @@ unfoldable pub flagged : List ℕ → ℕ → Bool
 flagged flags v = eqb (getD flags v 0) 1
 
 -- v is of f, not flagged as contested, and reached with no earlier vertex of f.
-unfoldable pub earlyFlagged : Problem → List ℕ → List ℕ → ℕ → ℕ → Bool
-earlyFlagged p flags fresh f v = eqb (functionOf p v) f && (not (flagged flags v) && freshTest fresh p v)
+pub record EarlyAt (p : Problem) (flags fresh : List ℕ) (f v : ℕ) : Type 0 where
+  pub of : functionOf p v ≡ f
+  pub free : flagged flags v ≡ false
+  pub first : freshTest fresh p v ≡ true
 
-unfoldable pub coldFlagged : Problem → List ℕ → List ℕ → ℕ → Bool
-coldFlagged p flags fresh f = existsBelow (p .«vertex_count») (λ v. earlyFlagged p flags fresh f v)
+-- A word of the functions with such a vertex below n.
+pub record ColdBelow (p : Problem) (flags fresh : List ℕ) (n word : ℕ) : Type 0 where
+  pub member : (f : ℕ) → Member word f ↔ ((v : ℕ) × (v < n) × EarlyAt p flags fresh f v)
+
+-- The cold functions.
+abbrev pub ColdWord : Problem → List ℕ → List ℕ → ℕ → Type 0
+ColdWord p flags fresh word = ColdBelow p flags fresh (p .«vertex_count») word
 
 -- The visit charge of a vertex, and 0 past the vertices.
 unfoldable pub chargeAt : Problem → (ℕ → Bool) → ℕ → ℕ

@@ -1,15 +1,15 @@
-// Contested vertices, visit charges and first loads, from tables of interference sets and first reach. A problem is its checked numbers.
+// Contested vertices, visit charges and first loads, from tables of what regions may hold and of first reach. A problem is its checked numbers.
 use model::Cycles;
 ghost use mathlib.Core.Path.{_≡_};
-ghost use mathlib.Core.Bool.{cond, _&&_};
-ghost use Prim.Native.Nat.{_+_, _<_, _≤_};
+ghost use mathlib.Core.Bool.{cond};
+ghost use mathlib.Core.Logic.{_↔_};
+ghost use Prim.Native.Nat.{ℕ, _+_, _<_, _≤_};
 ghost use lib.ListN.{length};
-ghost use lib.Dec.{eqb};
 ghost use Rattle.model.specs.Numbers.{problemOf};
 ghost use Rattle.model.specs.Operations.{Checked};
-ghost use Rattle.model.specs.Layouts.{regionOf};
 ghost use Rattle.model.specs.Charges.{visitCharge};
-ghost use Rattle.charges.specs.Tests.{bitTest, contestedBy, flagged, earlyFlagged, coldFlagged, chargeAt, firstLoad, Tallied, Charged, LoadedFirst};
+ghost use Rattle.model.specs.Results.{Member};
+ghost use Rattle.charges.specs.Tests.{bitTest, contestedBy, flagged, EarlyAt, ColdWord, chargeAt, firstLoad, Tallied, Charged, LoadedFirst};
 
 fn has_bit(word: u32, g: usize) -> bool
     requires { ⌜ g < 32 ⌝ }
@@ -18,32 +18,13 @@ fn has_bit(word: u32, g: usize) -> bool
     (word >> g) % 2 == 1
 }
 
-// Whether g is in the set that a word holds, and in the region of f.
-fn is_rival(layout: &[u8], word: u32, f: usize, g: usize) -> bool
-    requires { ⌜ g < 32 ⌝ }
-    ensures { λ r. ⌜ r ≡ bitTest word g && eqb (regionOf (now (layout .entry)) g) (regionOf (now (layout .entry)) f) ⌝ }
-{
-    if has_bit(word, g) {
-        return layout::region_of(layout, g) == layout::region_of(layout, f);
-    }
-    false
-}
-
-fn is_contested(l: &[u64; 1446], layout: &[u8], sets: &[u32; 4096], v: usize) -> bool
+// Whether some walk arrives at v with a rival of its function held: two words have a member in common.
+fn is_contested(l: &[u64; 1446], rivals: &[u32; 32], latest: &[u32; 128], v: usize) -> bool
     requires { ⌜ Checked (now l) ⌝ ∗ ⌜ v < problemOf (now l) .«vertex_count» ⌝ }
-    ensures { λ r. ⌜ r ≡ contestedBy (problemOf (now (l .entry))) (now (layout .entry)) (now (sets .entry)) v ⌝ }
+    ensures { λ r. ⌜ r ≡ contestedBy (problemOf (now (l .entry))) (now (rivals .entry)) (now (latest .entry)) v ⌝ }
 {
     let f = lookup::function_of(l, v);
-    let word = sets[32 * v + f];
-    let count = lookup::function_count(l);
-    let mut g: usize = 0;
-    while g < count {
-        if is_rival(layout, word, f, g) {
-            return true;
-        }
-        g += 1;
-    }
-    false
+    0 < latest[v] & rivals[f]
 }
 
 fn flag_of(set: bool) -> u8
@@ -58,18 +39,18 @@ fn flag_of(set: bool) -> u8
 // Flags the contested vertices, and counts them.
 pub fn mark_contested(
     l: &[u64; 1446],
-    layout: &[u8],
-    sets: &[u32; 4096],
+    rivals: &[u32; 32],
+    latest: &[u32; 128],
     flags: &mut [u8; 128],
 ) -> usize
     requires { ⌜ Checked (now l) ⌝ ∗ ⌜ length (now flags) ≡ 128 ⌝ }
-    ensures { λ r. ⌜ Tallied (problemOf (now (l .entry)) .«vertex_count») (contestedBy (problemOf (now (l .entry))) (now (layout .entry)) (now (sets .entry))) (now (flags .exit)) r ⌝ }
+    ensures { λ r. ⌜ Tallied (problemOf (now (l .entry)) .«vertex_count») (contestedBy (problemOf (now (l .entry))) (now (rivals .entry)) (now (latest .entry))) (now (flags .exit)) r ⌝ }
 {
     let count = graph::vertex_count(l);
     let mut tally: usize = 0;
     let mut v: usize = 0;
     while v < count {
-        let flag = flag_of(is_contested(l, layout, sets, v));
+        let flag = flag_of(is_contested(l, rivals, latest, v));
         flags[v] = flag;
         tally += flag as usize;
         v += 1;
@@ -120,56 +101,54 @@ pub fn fill_charges(l: &[u64; 1446], flags: &[u8; 128], charge: &mut [u64; 128])
     }
 }
 
-// Whether v is an uncontested vertex of f that a walk reaches with no earlier vertex of f.
-fn is_early(l: &[u64; 1446], flags: &[u8; 128], fresh: &[u32; 128], f: usize, v: usize) -> bool
-    requires { ⌜ Checked (now l) ⌝ ∗ ⌜ v < problemOf (now l) .«vertex_count» ⌝ ∗ ⌜ f < 32 ⌝ }
-    ensures { λ r. ⌜ r ≡ earlyFlagged (problemOf (now (l .entry))) (now (flags .entry)) (now (fresh .entry)) f v ⌝ }
+// The function of v, where v is not flagged and a walk reaches it with no earlier vertex of that function; else no function.
+fn early_at(l: &[u64; 1446], flags: &[u8; 128], fresh: &[u32; 128], v: usize) -> u32
+    requires { ⌜ Checked (now l) ⌝ ∗ ⌜ v < problemOf (now l) .«vertex_count» ⌝ }
+    ensures { λ r. ⌜ ((f : ℕ) → Member r f ↔ EarlyAt (problemOf (now (l .entry))) (now (flags .entry)) (now (fresh .entry)) f v) ⌝ }
 {
-    if lookup::function_of(l, v) == f {
-        if flags[v] == 1 {
-            return false;
-        }
-        return has_bit(fresh[v], f);
+    if flags[v] == 1 {
+        return 0;
     }
-    false
+    let f = lookup::function_of(l, v);
+    fresh[v] & (1u32 << f)
 }
 
-fn is_cold(l: &[u64; 1446], flags: &[u8; 128], fresh: &[u32; 128], f: usize) -> bool
-    requires { ⌜ Checked (now l) ⌝ ∗ ⌜ f < 32 ⌝ }
-    ensures { λ r. ⌜ r ≡ coldFlagged (problemOf (now (l .entry))) (now (flags .entry)) (now (fresh .entry)) f ⌝ }
+// The cold functions.
+pub fn cold_functions(l: &[u64; 1446], flags: &[u8; 128], fresh: &[u32; 128]) -> u32
+    requires { ⌜ Checked (now l) ⌝ }
+    ensures { λ r. ⌜ ColdWord (problemOf (now (l .entry))) (now (flags .entry)) (now (fresh .entry)) r ⌝ }
 {
     let count = graph::vertex_count(l);
+    let mut cold: u32 = 0;
     let mut v: usize = 0;
     while v < count {
-        if is_early(l, flags, fresh, f, v) {
-            return true;
-        }
+        cold |= early_at(l, flags, fresh, v);
         v += 1;
     }
-    false
+    cold
 }
 
 // What a function adds to the first loads: its load cost where it is cold.
-fn first_load(l: &[u64; 1446], flags: &[u8; 128], fresh: &[u32; 128], f: usize) -> Cycles
+fn first_load(l: &[u64; 1446], cold: u32, f: usize) -> Cycles
     requires { ⌜ Checked (now l) ⌝ ∗ ⌜ f < problemOf (now l) .«function_count» ⌝ }
-    ensures { λ r. ⌜ r .0 ≡ firstLoad (problemOf (now (l .entry))) (coldFlagged (problemOf (now (l .entry))) (now (flags .entry)) (now (fresh .entry))) f ⌝ }
+    ensures { λ r. ⌜ r .0 ≡ firstLoad (problemOf (now (l .entry))) (bitTest cold) f ⌝ }
 {
-    if is_cold(l, flags, fresh, f) {
+    if has_bit(cold, f) {
         return lookup::load_of(l, f);
     }
     Cycles(0)
 }
 
 // The load cost of each cold function once.
-pub fn first_loads(l: &[u64; 1446], flags: &[u8; 128], fresh: &[u32; 128]) -> Cycles
+pub fn first_loads(l: &[u64; 1446], cold: u32) -> Cycles
     requires { ⌜ Checked (now l) ⌝ }
-    ensures { λ r. ⌜ LoadedFirst (problemOf (now (l .entry))) (coldFlagged (problemOf (now (l .entry))) (now (flags .entry)) (now (fresh .entry))) (r .0) ⌝ }
+    ensures { λ r. ⌜ LoadedFirst (problemOf (now (l .entry))) (bitTest cold) (r .0) ⌝ }
 {
     let count = lookup::function_count(l);
     let mut loads = Cycles(0);
     let mut f: usize = 0;
     while f < count {
-        loads = sum(loads, first_load(l, flags, fresh, f));
+        loads = sum(loads, first_load(l, cold, f));
         f += 1;
     }
     loads

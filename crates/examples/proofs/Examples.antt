@@ -16,7 +16,7 @@ use Rattle.model.specs.Charges.{visitCharge, firstLoads, charges}
 use Rattle.model.specs.Runs.{held, cycles, loads}
 use Rattle.model.specs.Operations.{readFile, checkProblem}
 use Rattle.model.specs.Verdicts.{judgeProblem, judgeBound, mayFollow, pastBound, atLast, judgeWalk, judgeRun}
-use Rattle.sound.specs.Decide.{contestedTest, coldTest}
+use Rattle.sound.specs.Decide.{contestedTest}
 use Rattle.examples.specs.Problems.{problem, padded}
 use Rattle.examples.specs.Claims.{Claim, Means}
 use Rattle.examples.specs.Marks.{marks}
@@ -29,7 +29,7 @@ unfolding marks problem padded zipWith flatMap passes any all someFrom everyFrom
     jumps counts numbersOf lowestFrom readGroups numberSize afterCount afterItem nextField belowCount fromHeader inRange edgeBefore ascends itemStart
     checkFrom readFrom lacks badRange wrongEdge noReturn graphRules visits total largest regionOf largestIn needOf judgeLayout since occurs
     visitCharge firstLoads charges held cycles loads readFile checkProblem judgeProblem judgeBound mayFollow pastBound atLast judgeWalk judgeRun
-    contestedTest coldTest
+    contestedTest
 computed = refl
 
 pub examples : (c : Claim) → List·Memᴰ c marks → Means c

@@ -28,10 +28,10 @@ use Rattle.model.proofs.Cases.{and-left, and-right, true-not-false}
 use Rattle.sound.proofs.Sound.{cycles-covered}
 use Rattle.sound.proofs.Decide.{told}
 use Rattle.examples.specs.Claims.{Claim, sets, bounds, boundRefused, runs, runRefused, longestRun, reads, readRefused, RefusedAs, Means}
-use Rattle.examples.specs.Tests.{has, settled, ownMember, ownFresh, setIs, contested, cold, accepted, refusedAs, passes}
+use Rattle.examples.specs.Tests.{has, settled, ownMember, ownFresh, setIs, shared, contested, cold, accepted, refusedAs, passes}
 use Rattle.examples.proofs.Passed.{each, all-at, has-is, every-below}
 use Rattle.examples.proofs.Greatest.{greatest-is}
-use Rattle.examples.proofs.Tables.{member-below, member-is, function-below, member-all, tables}
+use Rattle.examples.proofs.Tables.{member-below, member-is, walk-below, function-below, member-all, tables}
 use Rattle.examples.proofs.Reading.{read-accepts, read-refuses}
 
 accepted-is : (v : Verdict) → accepted v ≡ true → v ≡ verdict.Accepted
@@ -68,7 +68,7 @@ bounds-mean : (p : Problem) (layout : List ℕ) (need tally first most : ℕ) �
 unfolding passes
 bounds-mean p layout need tally first most ok =
     let (judged, (ready, (need-is, (tally-is, (first-is, (low, (limit, (most-is, _)))))))) = each _ ok in
-    let says = told p layout (ownMember p) (ownFresh p) (tables p ready) in
+    let says = told p layout (shared p layout) (ownFresh p) (cold p layout) (tables p ready layout) in
     let greatest = greatest-is p (charges (visitCharge p (contested p layout))) (most - first) most-is in
     let firsts : first ≡ firstLoads p (cold p layout) = eqb-true first _ first-is in
     let fits : first ≤ most = leb-true first most low in (
@@ -89,7 +89,7 @@ bounds-mean p layout need tally first most ok =
             omega (
               arith,
               greatest .above h lawful,
-              cycles-covered p layout (contested p layout) (cold p layout) says (tables p ready .function) (lawful .walk),
+              cycles-covered p layout (contested p layout) (cold p layout) says (λ v h walk. function-below p ready v (walk-below p ready walk)) (lawful .walk),
             );
       },
     )

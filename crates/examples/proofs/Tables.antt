@@ -4,16 +4,20 @@ use mathlib.Core.Path.{_≡_, refl}
 use mathlib.Core.List.{List, [], _∷_}
 use mathlib.Core.Bool.{Bool, true, false, cond, not, _&&_}
 use lib.Dec.{eqb, ltb}
-use borrow.Author.Tests.{eqb-true, ltb-true, ne-eqb, not-true}
+use borrow.Author.Tests.{eqb-true, eq-eqb, ltb-true, ne-eqb, not-true}
 use Rattle.model.specs.declared.Problem.{Problem}
 use Rattle.model.specs.Graph.{edgesOf}
 use Rattle.model.specs.Costs.{functionOf}
 use Rattle.model.specs.Walks.{EdgeOf, Walk, start, step}
-use Rattle.model.specs.Interference.{since, occurs, Interferes, Fresh}
+use Rattle.model.specs.Layouts.{regionOf}
+use Rattle.model.specs.Interference.{since, occurs, Interferes, Fresh, Contested}
 use Rattle.model.proofs.Cases.{and-left, and-right}
+use Rattle.model.proofs.Search.{some-below, exists-at}
+use Rattle.sound.specs.Decide.{EarlyVertex}
 use Rattle.sound.proofs.Flow.{since-ne, complete, fresh-complete}
+use Rattle.sound.proofs.Tests.{and-both}
 use Rattle.sound.proofs.Decide.{Tables}
-use Rattle.examples.specs.Tests.{all, has, shown, member, fresh, handsOn, settled, ownMember, ownFresh}
+use Rattle.examples.specs.Tests.{all, has, shown, member, fresh, handsOn, settled, ownMember, ownFresh, rival, shared, contested, early, cold}
 use Rattle.examples.proofs.Passed.{each, all-at, has-is, every-below}
 use Rattle.examples.proofs.Search.{Free, Found, found}
 
@@ -49,7 +53,7 @@ module _ (p : Problem) where
     unfolding settled
     some-vertex = ltb-true 0 (p .«vertex_count») (each _ ok .0)
 
-    walk-below : {v : ℕ} {h : List ℕ} → Walk (EdgeOf p) v h → v < p .«vertex_count»
+    pub walk-below : {v : ℕ} {h : List ℕ} → Walk (EdgeOf p) v h → v < p .«vertex_count»
     unfolding settled
     walk-below start = some-vertex
     walk-below (step {u} {v} walk edge) =
@@ -88,11 +92,41 @@ module _ (p : Problem) where
           fresh-complete (functionOf p) (EdgeOf p) (λ w. fresh p f w ≡ true) f (and-left (fresh p f 0) _ closed)
           (λ u w edge ne. handed u w edge ne .2) walk o
 
-    pub tables : Tables p (ownMember p) (ownFresh p)
-    tables =
-        record {
-          vertex = λ v h walk. walk-below walk;
-          function = λ v h walk. function-below v (walk-below walk);
-          member = λ v g l. (member-is (functionOf p v) v g, member-all (functionOf p v) (function-below v l) v g);
-          reached = λ v l. (fresh-is (functionOf p v) v, fresh-all (functionOf p v) (function-below v l) v);
-        }
+    module _ (layout : List ℕ) where
+      shared-is : (v : ℕ) → shared p layout v ≡ true → Contested (functionOf p) (EdgeOf p) (regionOf layout) v
+      shared-is v e =
+          let (g, l, x) = some-below (p .«function_count») (rival p layout v) e in (
+            g,
+            member-is (functionOf p v) v g (and-left (ownMember p v g) _ x),
+            eqb-true (regionOf layout g) (regionOf layout (functionOf p v)) (and-right (ownMember p v g) _ x),
+          )
+
+      shared-all : (v : ℕ) → v < p .«vertex_count» → Contested (functionOf p) (EdgeOf p) (regionOf layout) v → shared p layout v ≡ true
+      shared-all v below (g, interferes, e) =
+          let m = member-all (functionOf p v) (function-below v below) v g interferes in
+          exists-at (p .«function_count») (rival p layout v) g (member-below (functionOf p v) v g m)
+          (and-both _ _ m (eq-eqb (regionOf layout g) (regionOf layout (functionOf p v)) e))
+
+      early-is : (f : ℕ) → cold p layout f ≡ true → EarlyVertex p (shared p layout) (ownFresh p) f
+      early-is f e =
+          let (v, l, x) = some-below (p .«vertex_count») (early p layout f) e in
+          let y = and-right (eqb (functionOf p v) f) _ x in (
+            v,
+            l,
+            eqb-true (functionOf p v) f (and-left (eqb (functionOf p v) f) _ x),
+            not-true (contested p layout v) (and-left (not (contested p layout v)) _ y),
+            and-right (not (contested p layout v)) _ y,
+          )
+
+      early-all : (f : ℕ) → EarlyVertex p (shared p layout) (ownFresh p) f → cold p layout f ≡ true
+      early-all f (v, l, of-f, free, reached) =
+          exists-at (p .«vertex_count») (early p layout f) v l (and-both _ _ (eq-eqb (functionOf p v) f of-f) (and-both (not (contested p layout v)) (ownFresh p v) (rw free) reached))
+
+      pub tables : Tables p layout (shared p layout) (ownFresh p) (cold p layout)
+      tables =
+          record {
+            vertex = λ v h walk. walk-below walk;
+            contested = λ v l. (shared-is v, shared-all v l);
+            reached = λ v l. (fresh-is (functionOf p v) v, fresh-all (functionOf p v) (function-below v l) v);
+            early = λ f. (early-is f, early-all f);
+          }

@@ -18,14 +18,14 @@ use Rattle.model.specs.File.{readFields}
 use Rattle.model.specs.Graph.{edgesOf, judgeGraph}
 use Rattle.model.specs.Walks.{lastVertex}
 use Rattle.model.specs.Costs.{functionOf, howMany}
-use Rattle.model.specs.Layouts.{needOf}
+use Rattle.model.specs.Layouts.{regionOf, needOf}
 use Rattle.model.specs.Interference.{since, occurs}
 use Rattle.model.specs.Charges.{visitCharge, firstLoads, charges}
 use Rattle.model.specs.Runs.{cycles, loads}
 use Rattle.model.specs.Operations.{readFile}
 use Rattle.model.specs.Verdicts.{judgeBound, judgeRun, pastBound}
 use Rattle.model.specs.Results.{boundLimit}
-use Rattle.sound.specs.Decide.{contestedTest, coldTest}
+use Rattle.sound.specs.Decide.{contestedTest}
 use Rattle.examples.specs.Claims.{Claim, sets, bounds, boundRefused, runs, runRefused, longestRun, reads, readRefused}
 
 module _ {A : Type 0} (test : A → Bool) where
@@ -119,11 +119,22 @@ module _ (p : Problem) where
       ∷ someFrom p (pastBound p) (λ v h. eqb v (lastVertex p) && eqb (f (v ∷ h)) m) steps 0 [] ∷ [])
 
   module _ (layout : List ℕ) where
+    -- The set of v has g, which is in the region of v's function.
+    abbrev pub rival : ℕ → ℕ → Bool
+    rival v g = ownMember v g && eqb (regionOf layout g) (regionOf layout (functionOf p v))
+
+    abbrev pub shared : ℕ → Bool
+    shared v = existsBelow (p .«function_count») (rival v)
+
     abbrev pub contested : ℕ → Bool
-    contested = contestedTest p layout ownMember
+    contested = contestedTest p shared
+
+    -- v is of f, uncontested, and reached with no earlier vertex of f.
+    abbrev pub early : ℕ → ℕ → Bool
+    early f v = eqb (functionOf p v) f && (not (contested v) && ownFresh v)
 
     abbrev pub cold : ℕ → Bool
-    cold = coldTest p layout ownMember ownFresh
+    cold f = existsBelow (p .«vertex_count») (early f)
 
 abbrev pub accepted : Verdict → Bool
 accepted verdict.Accepted = true

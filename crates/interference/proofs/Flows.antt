@@ -26,7 +26,7 @@ use Rattle.interference.proofs.Steps.{restated}
 use Rattle.interference.proofs.Sweeps.{Laws}
 
 -- A cleared table.
-empty : (n k b : ℕ) → Has (replicate n 0) k b → ⊥
+pub empty : (n k b : ℕ) → Has (replicate n 0) k b → ⊥
 empty n k b h = none-in-zero b (subst (λ (w : ℕ). Member w b) (all-zero n k) h)
   where
     all-zero : (n k : ℕ) → getD (replicate {A = ℕ} n 0) k 0 ≡ 0
@@ -54,11 +54,11 @@ pub one-word-row : (v add : ℕ) (ws after : List ℕ) (changed : Bool) → Step
 one-word-row v add ws after changed s = restated (λ k b. (λ a. (0, (omega arith, a)), λ (f, (lt, a)). a)) s
 
 module _ (p : Problem) where
-  is-edge : (i : ℕ) → i < length (edgesOf p) → EdgeOf p (from p i) (to p i)
+  pub is-edge : (i : ℕ) → i < length (edgesOf p) → EdgeOf p (from p i) (to p i)
   is-edge i here = mem-getD (edgesOf p) i zeroEdge here
 
   -- What holds of every edge by its number holds of every edge.
-  by-number : (P : Edge → Type 0) → ((i : ℕ) → i < length (edgesOf p) → P (edge (edgesOf p) i)) → (u v : ℕ) → EdgeOf p u v → P (record { from = u; to = v })
+  pub by-number : (P : Edge → Type 0) → ((i : ℕ) → i < length (edgesOf p) → P (edge (edgesOf p) i)) → (u v : ℕ) → EdgeOf p u v → P (record { from = u; to = v })
   by-number P all u v e = let r = index-of zeroEdge e in subst P (r .2) (all (r .0) (r .1))
 
   -- Word 32 v + f is that of v and f.

@@ -17,7 +17,7 @@ ghost use Rattle.interference.specs.Flows.{setAt, Leaves, InSet, setFlow
 ghost use Rattle.interference.specs.Copies.{RowCopied, Copied};
 
 // The members of w but g.
-fn without(w: u32, g: usize) -> u32
+pub fn without(w: u32, g: usize) -> u32
     requires { ⌜ g < 32 ⌝ }
     ensures { λ r. ⌜ ((b : ℕ) → Member r b ↔ ((g ≡ b → ⊥) × Member w b)) ⌝ }
 {
@@ -34,7 +34,7 @@ fn below(n: usize) -> u32
 }
 
 // Word `at` gains the members of `add`. Whether that changed it. It is stored either way: a row's words are then gained several at a time.
-fn gain(words: &mut [u32], at: usize, add: u32) -> bool
+pub fn gain(words: &mut [u32], at: usize, add: u32) -> bool
     requires { ⌜ at < length (now words) ⌝ }
     ensures { λ r. ⌜ Step (λ k b. (k ≡ at) × Member add b) (now (words .entry)) (now (words .exit)) r ⌝ }
 {
@@ -106,7 +106,7 @@ fn ends(l: &[u64; 1446]) -> [usize; 129]
 }
 
 // Where the edges from each vertex begin in the list: behind the last one from a lower vertex, since the list ascends.
-fn starts(l: &[u64; 1446]) -> [usize; 129]
+pub fn starts(l: &[u64; 1446]) -> [usize; 129]
     requires { ⌜ Checked (now l) ⌝ }
     ensures { λ r. ⌜ Starts (problemOf (now (l .entry))) r ⌝ }
 {

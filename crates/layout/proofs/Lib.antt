@@ -1,3 +1,4 @@
 pub mod Sums
+pub mod Sizes
 pub mod Judged
 pub mod Through13

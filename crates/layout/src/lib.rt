@@ -2,15 +2,15 @@
 use model::Bytes;
 use model::Refusal;
 ghost use mathlib.Core.Path.{_≡_};
-ghost use mathlib.Core.Bool.{cond};
 ghost use Prim.Native.Nat.{_+_, _<_, _≤_, max};
-ghost use lib.Dec.{eqb, ltb};
+ghost use lib.ListN.{length};
+ghost use lib.Dec.{ltb};
 ghost use Rattle.model.specs.Numbers.{problemOf};
 ghost use Rattle.model.specs.Operations.{Checked};
 ghost use Rattle.model.specs.Search.{lowestBelow};
-ghost use Rattle.model.specs.Costs.{sizeOf};
-ghost use Rattle.model.specs.Layouts.{regionOf, largestIn, needOf, judgeLayout};
+ghost use Rattle.model.specs.Layouts.{regionOf, needOf, judgeLayout};
 ghost use Rattle.layout.specs.Answers.{layoutAnswer, refusalIn};
+ghost use Rattle.layout.specs.Sizes.{Enlarged, LargestSizes};
 
 // What judging a layout says: the bytes that it needs, which the scratchpad has, or the refusal.
 pub enum LayoutAnswer {
@@ -44,29 +44,29 @@ pub fn sum(a: Bytes, b: Bytes) -> Bytes
     Bytes(a.0 + b.0)
 }
 
-// What a function adds to a region's choice of the largest: its size, or nothing where it has another region.
-fn size_in(l: &[u64; 1446], layout: &[u8], f: usize, region: usize) -> Bytes
-    requires { ⌜ Checked (now l) ⌝ ∗ ⌜ f < problemOf (now l) .«function_count» ⌝ }
-    ensures { λ r. ⌜ r .0 ≡ cond (eqb (regionOf (now (layout .entry)) f) region) (sizeOf (problemOf (now (l .entry))) f) 0 ⌝ }
+// A region's largest size, with one size more.
+fn enlarge(sizes: &mut [u64; 32], region: usize, size: Bytes)
+    requires { ⌜ length (now sizes) ≡ 32 ⌝ }
+    ensures { λ _. ⌜ Enlarged (now (sizes .entry)) region (size .0) (now (sizes .exit)) ⌝ }
 {
-    if region_of(layout, f) == region {
-        return lookup::size_of(l, f);
+    if region < 32 {
+        let most = larger(Bytes(sizes[region]), size);
+        sizes[region] = most.0;
     }
-    Bytes(0)
 }
 
-fn largest_in(l: &[u64; 1446], layout: &[u8], region: usize) -> Bytes
+// The size of the largest function in each region.
+fn largest_sizes(l: &[u64; 1446], layout: &[u8], sizes: &mut [u64; 32])
     requires { ⌜ Checked (now l) ⌝ }
-    ensures { λ r. ⌜ r .0 ≡ largestIn (problemOf (now (l .entry))) (now (layout .entry)) region ⌝ }
+    ensures { λ _. ⌜ LargestSizes (problemOf (now (l .entry))) (now (layout .entry)) (now (sizes .exit)) ⌝ }
 {
+    *sizes = [0u64; 32];
     let count = lookup::function_count(l);
-    let mut largest = Bytes(0);
     let mut f: usize = 0;
     while f < count {
-        largest = larger(largest, size_in(l, layout, f, region));
+        enlarge(sizes, region_of(layout, f), lookup::size_of(l, f));
         f += 1;
     }
-    largest
 }
 
 // The bytes that a layout needs: for each region, the size of its largest function, all added.
@@ -74,10 +74,12 @@ pub fn need(l: &[u64; 1446], layout: &[u8]) -> Bytes
     requires { ⌜ Checked (now l) ⌝ }
     ensures { λ r. ⌜ r .0 ≡ needOf (problemOf (now (l .entry))) (now (layout .entry)) ⌝ }
 {
+    let mut sizes = [0u64; 32];
+    largest_sizes(l, layout, &mut sizes);
     let mut needed = Bytes(0);
     let mut region: usize = 0;
     while region < 32 {
-        needed = sum(needed, largest_in(l, layout, region));
+        needed = sum(needed, Bytes(sizes[region]));
         region += 1;
     }
     needed

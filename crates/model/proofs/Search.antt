@@ -11,7 +11,7 @@ use Rattle.model.specs.declared.Refusal.{Refusal}
 use Rattle.model.specs.declared.Verdict.the-variants.{Accepted, Refused}
 use Rattle.model.specs.Search.{lowestFrom, lowestBelow, existsBelow}
 use Rattle.model.specs.Graph.{broken}
-use Rattle.model.proofs.Cases.{by-bool}
+use Rattle.model.proofs.Cases.{by-bool, true-not-false}
 
 -- The numbers below i have been passed over: the search goes on as one from i on.
 pub record Searched (n : ℕ) (test : ℕ → Bool) (i : ℕ) : Type 0 where
@@ -83,3 +83,6 @@ module _ (n : ℕ) (test : ℕ → Bool) where
 
   pub none-below : existsBelow n test ≡ false → (i : ℕ) → i < n → test i ≡ false
   none-below e i h = missed-from n 0 test (omega (arith, ltb-false (lowestBelow n test) n e)) i (omega arith) (omega arith)
+
+  pub exists-at : (i : ℕ) → i < n → test i ≡ true → existsBelow n test ≡ true
+  exists-at i h e = by-bool (existsBelow n test) (λ q. q) (λ q. true-not-false (sym e ∙ none-below q i h))

@@ -13,7 +13,7 @@ use Rattle.model.proofs.Cases.{true-not-false}
 
 module _ (fn : ℕ → ℕ) where
   -- A member of `since f (u ∷ h)`: u is not of f, and the member is u's function or one of `since f h`.
-  since-cases : (f g u : ℕ) (h : List ℕ) → List·Memᴰ g (since fn f (u ∷ h)) → (fn u ≡ f → ⊥) × ((g ≡ fn u) ⊎ List·Memᴰ g (since fn f h))
+  pub since-cases : (f g u : ℕ) (h : List ℕ) → List·Memᴰ g (since fn f (u ∷ h)) → (fn u ≡ f → ⊥) × ((g ≡ fn u) ⊎ List·Memᴰ g (since fn f h))
   unfolding since
   since-cases f g u h m = at (eqb (fn u) f) refl m
     where
@@ -41,27 +41,19 @@ module _ (fn : ℕ → ℕ) where
       at ne (inr i) ih = ih i
 
   module _ (Edge : ℕ → ℕ → Type 0) where
-    -- M v g says that g is in the set of v and f. If over each edge that a walk comes to from u, unless u is of f, the set gains u's function and all
-    -- that the set of u has, then it holds every function that a walk shows.
-    pub complete-on-walks :
-        (M : ℕ → ℕ → Type 0) (f : ℕ) →
-        ((u v : ℕ) (h : List ℕ) → Walk Edge u h → Edge u v → (fn u ≡ f → ⊥) → M v (fn u) × ((g : ℕ) → M u g → M v g)) →
-        {v : ℕ} {h : List ℕ} (g : ℕ) → Walk Edge v h → List·Memᴰ g (since fn f h) → M v g
-    unfolding since
-    complete-on-walks M f closed g start i = absurd (List·Memᴰ·not-nil i)
-    complete-on-walks M f closed g (step {u} {v} {h} t d) i =
-        let (ne, j) = since-cases f g u h i in at (closed u v h t d ne) j (λ k. complete-on-walks M f closed g t k)
-      where
-        at : M v (fn u) × ((x : ℕ) → M u x → M v x) → (g ≡ fn u) ⊎ List·Memᴰ g (since fn f h) → (List·Memᴰ g (since fn f h) → M u g) → M v g
-        at gain (inl e) ih = subst (M v) (sym e) (gain .0)
-        at gain (inr k) ih = gain .1 g (ih k)
-
-    -- The same, closed under every edge.
+    -- M v g says that g is in the set of v and f. If over each edge from u, unless u is of f, the set gains u's function and all that the set of u has,
+    -- then it holds every function that a walk shows.
     pub complete :
         (M : ℕ → ℕ → Type 0) (f : ℕ) →
         ((u v : ℕ) → Edge u v → (fn u ≡ f → ⊥) → M v (fn u) × ((g : ℕ) → M u g → M v g)) →
         {v : ℕ} {h : List ℕ} (g : ℕ) → Walk Edge v h → List·Memᴰ g (since fn f h) → M v g
-    complete M f closed g t i = complete-on-walks M f (λ u v h r d ne. closed u v d ne) g t i
+    unfolding since
+    complete M f closed g start i = absurd (List·Memᴰ·not-nil i)
+    complete M f closed g (step {u} {v} {h} t d) i = let (ne, j) = since-cases f g u h i in at (closed u v d ne) j (λ k. complete M f closed g t k)
+      where
+        at : M v (fn u) × ((x : ℕ) → M u x → M v x) → (g ≡ fn u) ⊎ List·Memᴰ g (since fn f h) → (List·Memᴰ g (since fn f h) → M u g) → M v g
+        at gain (inl e) ih = subst (M v) (sym e) (gain .0)
+        at gain (inr k) ih = gain .1 g (ih k)
 
     -- What a step adds has a walk: the start's own function, and what the start's set has.
     pub first : (u v f : ℕ) (h : List ℕ) → Walk Edge u h → Edge u v → (fn u ≡ f → ⊥) → Interferes fn Edge v f (fn u)

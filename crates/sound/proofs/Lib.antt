@@ -1,5 +1,6 @@
 pub mod Tests
 pub mod Sums
 pub mod Flow
+pub mod Held
 pub mod Sound
 pub mod Decide

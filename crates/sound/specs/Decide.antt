@@ -1,26 +1,16 @@
--- Contested and cold as tests on tables: `m v g` tells that the interference set of v and its own function has g, `fresh v` that a walk comes to v
--- with no earlier vertex of its function.
-use Prim.Native.Nat.{ℕ}
-use mathlib.Core.List.{List}
-use mathlib.Core.Bool.{Bool, not, _&&_}
-use lib.Dec.{eqb, ltb}
+-- Contested and cold as tests on tables: `shared v` tells, of a vertex, that it is contested, `fresh v` that a walk comes to v with no earlier vertex of
+-- its function.
+use Prim.Native.Nat.{ℕ, _<_}
+use mathlib.Core.Path.{_≡_}
+use mathlib.Core.Bool.{Bool, true, false, _&&_}
+use lib.Dec.{ltb}
 use Rattle.model.specs.declared.Problem.{Problem}
-use Rattle.model.specs.Search.{existsBelow}
 use Rattle.model.specs.Costs.{functionOf}
-use Rattle.model.specs.Layouts.{regionOf}
 
-module _ (p : Problem) (layout : List ℕ) (m : ℕ → ℕ → Bool) where
-  -- The set of v has g, which is in the region of v's function.
-  abbrev pub rivalTest : ℕ → ℕ → Bool
-  rivalTest v g = m v g && eqb (regionOf layout g) (regionOf layout (functionOf p v))
-
+module _ (p : Problem) (shared : ℕ → Bool) where
   unfoldable pub contestedTest : ℕ → Bool
-  contestedTest v = ltb v (p .«vertex_count») && existsBelow (p .«function_count») (λ g. rivalTest v g)
+  contestedTest v = ltb v (p .«vertex_count») && shared v
 
-  module _ (fresh : ℕ → Bool) where
-    -- v is of f, uncontested, and reached with no earlier vertex of f.
-    abbrev pub earlyTest : ℕ → ℕ → Bool
-    earlyTest f v = eqb (functionOf p v) f && (not (contestedTest v) && fresh v)
-
-    unfoldable pub coldTest : ℕ → Bool
-    coldTest f = existsBelow (p .«vertex_count») (λ v. earlyTest f v)
+  -- A vertex of f is uncontested, and reached with no earlier vertex of f.
+  abbrev pub EarlyVertex : (ℕ → Bool) → ℕ → Type 0
+  EarlyVertex fresh f = (v : ℕ) × (v < p .«vertex_count») × (functionOf p v ≡ f) × (contestedTest v ≡ false) × (fresh v ≡ true)

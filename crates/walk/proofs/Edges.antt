@@ -15,13 +15,9 @@ use Rattle.model.specs.Zero.{zeroEdge, zeroLoop}
 use Rattle.model.specs.Graph.{edge, loop, edgesOf, loopsOf}
 use Rattle.model.specs.Walks.{EdgeOf, visits}
 use Rattle.model.specs.Verdicts.{mayFollow, pastBound}
-use Rattle.model.proofs.Cases.{by-bool, true-not-false}
+use Rattle.model.proofs.Cases.{by-bool}
 use Rattle.model.proofs.Lists.{mem-getD, index-of}
-use Rattle.model.proofs.Search.{some-below, none-below}
-
--- A test that passes somewhere below n.
-exists-at : (n : ℕ) (test : ℕ → Bool) (i : ℕ) → i < n → test i ≡ true → existsBelow n test ≡ true
-exists-at n test i h e = by-bool (existsBelow n test) (λ q. q) (λ q. true-not-false (sym e ∙ none-below n test q i h))
+use Rattle.model.proofs.Search.{some-below, none-below, exists-at}
 
 module _ (p : Problem) where
   -- Whether edge i leads from u to v.

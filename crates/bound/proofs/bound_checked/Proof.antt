@@ -1,5 +1,5 @@
 -- `bound_checked` meets Bound's definition on checked numbers: the layout, and its price.
-use Rattle.layout.proofs.Through13.{refused-layout, through}
+use Rattle.layout.proofs.Through13.{refused-layout, through, regions-known}
 use Rattle.bound.proofs.Stages.{refused-says, priced-says}
 use borrow.Author.Needs.{needs}
 use Rattle.bound.proofs.bound_checked.Statement.{statement}
@@ -21,7 +21,9 @@ returns : tie.Need-returns
 returns c = refused-says _ _ _ (refused-layout _ _ (c .before .before .before .before .before .pre) _ (c .before .before .before .judge .ensures) _ _ (c .before .enum-told .given .1) (c .refusal-in .ensures))
 
 price-requires : tie.Need-price-requires
-price-requires c κs = (c .before .before .before .before .before .pre, through _ _ (c .before .before .before .before .before .pre) _ (c .before .before .before .judge .ensures) _ (c .before .judged .given .1) .need-is)
+price-requires c κs =
+    let t = through _ _ (c .before .before .before .before .before .pre) _ (c .before .before .before .judge .ensures) _ (c .before .judged .given .1) in
+    (c .before .before .before .before .before .pre, (t .need-is, regions-known _ _ (t .good)))
 
 returns-2 : tie.Need-returns-2
 returns-2 c = priced-says _ _ (through _ _ (c .before .before .before .before .before .before .pre) _ (c .before .before .before .before .judge .ensures) _ (c .before .before .judged .given .1) .good) (c .price .result) (c .price .ensures)

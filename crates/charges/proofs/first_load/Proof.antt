@@ -1,25 +1,25 @@
 -- `charges::first_load` is the load cost of a cold function.
 use mathlib.Core.Path.{sym, _∙_}
-use native.Mathlib.Omega.{arith}
-use borrow.Author.Needs.{needs}
 use Rattle.lookup.proofs.Places.{few-functions}
 use Rattle.charges.specs.Tests.{firstLoad}
+use native.Mathlib.Omega.{arith}
+use borrow.Author.Needs.{needs}
 use Rattle.charges.proofs.first_load.Statement.{statement}
 use Rattle.charges.proofs.first_load.Tie as tie
 
-is-cold-requires : tie.Need-is-cold-requires
-is-cold-requires c κs = (c .pre .0, omega (arith, few-functions _ (c .pre .0)))
+has-bit-requires : tie.Need-has-bit-requires
+has-bit-requires c κs = omega (arith, few-functions _ (c .pre .0))
 
 load-of-requires : tie.Need-load-of-requires
 load-of-requires c κs = search needs
 
 returns : tie.Need-returns
 unfolding firstLoad
-returns c = rw (sym (c .before .before .is-cold .ensures) ∙ c .before .if1 .taken) (c .load-of .ensures)
+returns c = rw (sym (c .before .before .has-bit .ensures) ∙ c .before .if1 .taken) (c .load-of .ensures)
 
 returns-2 : tie.Need-returns-2
 unfolding firstLoad
-returns-2 c = rw (sym (c .before .is-cold .ensures) ∙ c .if1 .left)
+returns-2 c = rw (sym (c .before .has-bit .ensures) ∙ c .if1 .left)
 
 pub first-load-spec : {M : Type 1} → statement M
-first-load-spec = tie.close (tie.spec is-cold-requires load-of-requires returns returns-2)
+first-load-spec = tie.close (tie.spec has-bit-requires load-of-requires returns returns-2)

@@ -7,17 +7,17 @@ use Rattle.model.specs.Numbers.{problemOf}
 use Rattle.model.specs.Costs.{total}
 use Rattle.model.specs.Charges.{firstLoads}
 use Rattle.layout.proofs.Sums.{Upto, turn, end, total-more}
-use Rattle.charges.specs.Tests.{coldFlagged, firstLoad}
+use Rattle.charges.specs.Tests.{bitTest, firstLoad}
 use Rattle.charges.proofs.Sizes.{loads-fit, loaded-first}
 use Rattle.charges.proofs.first_loads.Statement.{statement}
 use Rattle.charges.proofs.first_loads.Tie as tie
 
 abbrev Inv-loop : tie.InvT-loop
-Inv-loop l flags fresh count loads₀ f₀ loads f =
-    Upto (λ n. total n (firstLoad (problemOf l) (coldFlagged (problemOf l) flags fresh))) (problemOf l .«function_count») f (loads .0)
+Inv-loop l cold count loads₀ f₀ loads f =
+    Upto (λ n. total n (firstLoad (problemOf l) (bitTest cold))) (problemOf l .«function_count») f (loads .0)
 
 abbrev μ-loop : tie.MeasureT-loop
-μ-loop l flags fresh count loads₀ f₀ loads f = count - f
+μ-loop l cold count loads₀ f₀ loads f = count - f
 
 function-count-requires : tie.Need-function-count-requires Inv-loop μ-loop
 function-count-requires c κs = search needs

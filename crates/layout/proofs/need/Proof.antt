@@ -12,24 +12,31 @@ use Rattle.layout.proofs.need.Statement.{statement}
 use Rattle.layout.proofs.need.Tie as tie
 
 abbrev Inv-loop : tie.InvT-loop
-Inv-loop l layout needed₀ region₀ needed region =
+Inv-loop l layout sizes needed₀ region₀ needed region =
     Upto (λ n. total n (largestIn (problemOf l) layout)) 32 region (needed .0)
 
 abbrev μ-loop : tie.MeasureT-loop
-μ-loop l layout needed₀ region₀ needed region = 32 - region
+μ-loop l layout sizes needed₀ region₀ needed region = 32 - region
+
+largest-sizes-requires : tie.Need-largest-sizes-requires Inv-loop μ-loop
+largest-sizes-requires c κs = search needs
 
 loop-holds : tie.Need-loop-holds Inv-loop μ-loop
 unfolding total
 loop-holds c = record { within = omega arith; is = refl }
 
-largest-in-requires : tie.Need-largest-in-requires Inv-loop μ-loop
-largest-in-requires c κs = search needs
+mul-t9 : tie.Need-mul-t9 Inv-loop μ-loop
+mul-t9 c = search needs
+
+array-read-t12 : tie.Need-array-read-t12 Inv-loop μ-loop
+array-read-t12 c = search needs
 
 sum-requires : tie.Need-sum-requires Inv-loop μ-loop
 sum-requires c κs =
     omega (
       arith,
-      sum-high _ (c .before .before .before .before .pre) (c .before .before .before .before .args .layout .now) (c .before .before .loop .region) (omega arith),
+      c .before .before .largest-sizes .ensures .item (c .before .loop .region) (omega arith),
+      sum-high _ (c .before .before .before .before .before .pre) (c .before .before .before .before .before .args .layout .now) (c .before .loop .region) (omega arith),
     )
 
 add-region : tie.Need-add-region Inv-loop μ-loop
@@ -39,7 +46,7 @@ loop-less : tie.Need-loop-less Inv-loop μ-loop
 loop-less c = search needs
 
 loop-again : tie.Need-loop-again Inv-loop μ-loop
-loop-again c = turn _+_ (total-more _) (c .before .before .before .loop .inv) (omega arith) (c .before .largest-in .ensures) (c .sum .ensures)
+loop-again c = turn _+_ (total-more _) (c .before .before .loop .inv) (omega arith) (c .before .before .before .largest-sizes .ensures .item _ (omega arith)) (c .sum .ensures)
 
 returns : tie.Need-returns Inv-loop μ-loop
 unfolding needOf
@@ -51,8 +58,10 @@ need-spec =
     (tie.spec
     Inv-loop
     μ-loop
+    largest-sizes-requires
     loop-holds
-    largest-in-requires
+    mul-t9
+    array-read-t12
     sum-requires
     add-region
     loop-less
