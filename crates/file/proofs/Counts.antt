@@ -1,13 +1,14 @@
--- Numbers that were read or judged good have counts within their lists' room, as the graph checks ask.
+-- Numbers that were read or judged good have counts within their lists' room, and ends of edges and ranges within the vertices, as the graph checks ask.
 use Prim.Native.Nat.{ℕ, _<_}
 use mathlib.Core.Path.{_≡_, sym, _∙_, ap}
 use mathlib.Core.List.{List}
+use native.Mathlib.Omega.{arith}
 use lib.ListN.{getD, replicate, length-replicate}
 use Rattle.model.specs.declared.Fields.{Fields}
 use Rattle.model.specs.declared.Fields.the-variants.{Done}
 use Rattle.model.specs.File.{scanned, numberCount, firstField, readFields, checkFields}
 use Rattle.fields.specs.Valid.{edition}
-use Rattle.graph.specs.Counts.{Counted}
+use Rattle.graph.specs.Counts.{Counted, Placed}
 use Rattle.facts.proofs.Facts.{FieldFacts, field-facts}
 use Rattle.roundtrip.proofs.Turns.{is-judged}
 use Rattle.roundtrip.proofs.Reading.{read-back}
@@ -17,8 +18,19 @@ counted l end e =
     let f : FieldFacts l = field-facts l end e in
     record { some-vertex = f .some-vertex; vertices = f .vertices; edges = f .edges; loops = f .loops }
 
-pub counted-read : (s : List ℕ) → ((i : ℕ) → getD s i 0 < 256) → (f : Fields) (l : List ℕ) → scanned f l ≡ readFields s → (end : ℕ) → f ≡ Done end → Counted l
-counted-read s byte f l is end e =
-    counted l end
+pub placed : (l : List ℕ) (end : ℕ) → checkFields l ≡ Done end → Placed l
+placed l end e =
+    let f : FieldFacts l = field-facts l end e in
+    record {
+      counted = counted l end e;
+      from = λ i h. omega (arith, f .from i h, f .vertices);
+      to = λ i h. omega (arith, f .to i h, f .vertices);
+      header = f .header;
+      last = λ i h. omega (arith, f .last i h, f .vertices);
+    }
+
+pub placed-read : (s : List ℕ) → ((i : ℕ) → getD s i 0 < 256) → (f : Fields) (l : List ℕ) → scanned f l ≡ readFields s → (end : ℕ) → f ≡ Done end → Placed l
+placed-read s byte f l is end e =
+    placed l end
     (is-judged (read-back s byte numberCount 0 0 firstField (replicate numberCount 0) end l edition (length-replicate {A = ℕ} numberCount 0)
     (sym is ∙ ap (λ (x : Fields). scanned x l) e) .judged))

@@ -1,3 +1,7 @@
 pub mod Places
 pub mod Rules
 pub mod Facts
+pub mod Found
+pub mod Lent
+pub mod Marks
+pub mod Words

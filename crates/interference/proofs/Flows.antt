@@ -18,7 +18,7 @@ use Rattle.model.proofs.Lists.{mem-getD, index-of}
 use Rattle.sound.proofs.Flow.{first, further, complete, fresh-start, fresh-further, fresh-complete}
 use Rattle.interference.specs.Words.{Has, Step, Sound, Swept, Closed}
 use Rattle.interference.specs.Flows.{from, to, Gains, SetGains, InSet, SetPassed, RowsPassed, SetTable, IsFresh, FreshGains, FreshPassed, AllFreshPassed, FreshTable}
-use Rattle.interference.proofs.Bits.{none-in-zero}
+use Rattle.bits.proofs.Bits.{none-in-zero}
 use Rattle.interference.proofs.Steps.{restated}
 use Rattle.interference.proofs.Sweeps.{by-step}
 

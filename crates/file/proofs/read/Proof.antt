@@ -1,6 +1,6 @@
 -- `read` meets Read's definition: the fields, the bytes left over, the graph, the problem.
 use native.Mathlib.Omega.{arith}
-use Rattle.file.proofs.Counts.{counted-read}
+use Rattle.file.proofs.Counts.{placed-read}
 use Rattle.file.proofs.Stages.{read-refused, left-over, bad-graph, read-whole}
 use borrow.Author.Needs.{needs}
 use Rattle.file.proofs.read.Statement.{statement}
@@ -31,7 +31,7 @@ returns-2 : tie.Need-returns-2
 returns-2 c = left-over _ _ _ (c .before .before .before .before .before .read-fields .ensures) _ (c .before .before .before .fields .given .1) (c .before .if1 .taken) _ (c .not-read2 .ensures)
 
 judge-requires : tie.Need-judge-requires
-judge-requires c κs = counted-read (c .before .before .before .before .before .before .before .before .args .bytes .now) (λ i. omega (arith, c .before .before .before .before .before .before .before .shared-slice-known .given i)) _ _ (c .before .before .before .before .before .read-fields .ensures) _ (c .before .before .before .fields .given .1)
+judge-requires c κs = placed-read (c .before .before .before .before .before .before .before .before .args .bytes .now) (λ i. omega (arith, c .before .before .before .before .before .before .before .shared-slice-known .given i)) _ _ (c .before .before .before .before .before .read-fields .ensures) _ (c .before .before .before .fields .given .1)
 
 enum-told-2 : tie.Need-enum-told-2
 enum-told-2 c = search needs

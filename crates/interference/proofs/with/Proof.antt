@@ -1,5 +1,5 @@
 -- `with` adds one member.
-use Rattle.interference.proofs.Bits.{one-shl, with-members}
+use Rattle.bits.proofs.Bits.{one-shl, with-members}
 use borrow.Author.Needs.{needs}
 use Rattle.interference.proofs.with.Statement.{statement}
 use Rattle.interference.proofs.with.Tie as tie
