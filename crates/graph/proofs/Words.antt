@@ -118,7 +118,7 @@ module _ (ls : List Loop) (ranged : Ranged ls) where
   ends-all : Ends ls (length ls) (marksOf ls (length ls))
   ends-all = ends-up-to (length ls) (omega arith)
 
-  pub marks-headed : Headed ls (marksOf ls (length ls))
+  marks-headed : Headed ls (marksOf ls (length ls))
   marks-headed = record { told = ends-all .first }
 
 -- Of a range from h to l: what is held over to v, or starts at v, is around v; of that, what does not end at v is held over to the next.
@@ -210,7 +210,7 @@ module _ (ls : List Loop) (ranged : Ranged ls) where
         ∙ (rw (around-v v h (held-over v (omega arith)), ends-all ls ranged .last v b h) (parted (ltb b (length ls)) (holds (loop ls b) v) (eqb closes v) true)
         ∙ if-loop (λ q. goes-on opens closes v))
 
-  pub marks-around : Around ls (table 128 (aroundAt marks))
+  marks-around : Around ls (table 128 (aroundAt marks))
   marks-around =
       record {
         told = λ v b h. rw (getD-table 128 (aroundAt marks) v 0 h) (around-v b v h (held-over b v (omega arith)));
@@ -246,7 +246,7 @@ module _ {ls : List Loop} {around marks : List ℕ} (a : Around ls around) (h : 
       ∙ rw (has-or out heads b, a .told to b t, a .told from b f, h .told to b t)
       (parted-both (ltb b (length ls)) (holds (loop ls b) to) (holds (loop ls b) from) (eqb (loop ls b .header) to))
 
-  pub told-wrong : wrongBy into out heads from to ≡ wrongEdge ls (edgeOf from to)
+  told-wrong : wrongBy into out heads from to ≡ wrongEdge ls (edgeOf from to)
   unfolding wrongBy wrongEdge
   told-wrong =
       rw (

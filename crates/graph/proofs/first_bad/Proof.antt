@@ -49,11 +49,10 @@ use Rattle.graph.specs.Lent.{lowestUpTo, badAt}
 use Rattle.graph.proofs.Found.{lowest-first, bad-more}
 use Rattle.graph.proofs.Lent as lent
 use Rattle.graph.proofs.Lent.{word, slice, tells, passes, asks, counts}
-use Rattle.graph.proofs.header_at as head
+use Rattle.graph.proofs.Readers.{Head, Tail, reads-header, reads-last}
 use Rattle.graph.proofs.header_at.Symbol as head-def
 use Rattle.graph.proofs.header_at.Symbol.{name as #head}
 use Rattle.graph.proofs.header_at.Met as head-thm
-use Rattle.graph.proofs.last_at as tail
 use Rattle.graph.proofs.last_at.Symbol as tail-def
 use Rattle.graph.proofs.last_at.Symbol.{name as #tail}
 use Rattle.graph.proofs.last_at.Met as tail-thm
@@ -76,12 +75,6 @@ stayed = (stay-none-slice (0 ∷ []) tt (plain (λ _. T.the-row)) yes, (stay-non
 
 module _ {M : Type 1} (𝓤 : URA M) (H : Heap 𝓤) (A : Atoms 𝓤) (mem : Memory → SProp 𝓤) (run : Routine → Fun 𝓤) where
   -- the contracts that the proof cites
-  abbrev Head : Contract 𝓤
-  Head = tripleOf 𝓤 H A head.signature (head.spec 𝓤 H A mem run)
-
-  abbrev Tail : Contract 𝓤
-  Tail = tripleOf 𝓤 H A tail.signature (tail.spec 𝓤 H A mem run)
-
   abbrev Cross : Contract 𝓤
   Cross = tripleOf 𝓤 H A cross.signature (cross.spec 𝓤 H A mem run)
 
@@ -130,24 +123,6 @@ module _ {M : Type 1} (𝓤 : URA M) (H : Heap 𝓤) (A : Atoms 𝓤) (W : Given
       nothing ! $ move ! (1 ∷ 0 ∷ []) $ fjoin ! $ move ! (2 ∷ 0 ∷ []) $ fjoin ! $ frame ! $ done !
 
   -- what the callees are passed, and what of their posts is heard
-  abbrev to-head : ℕ → Head 𝓤 H A mem run .Ghost
-  to-head j = (((κ, tt), (q, tt), tt, (x, (j, tt)), (v ∷ [], (vint w64 j ∷ [], tt))), tt)
-
-  abbrev Heads : ℕ → ℕ → SProp 𝓤
-  Heads j = ensured 𝓤 H A head.ended (head.clauses 𝓤 H A mem run) (κ, tt) (x, (j, tt)) tt
-
-  said-head : (j r : ℕ) → ent 𝓤 (Heads j r) (fact 𝓤 (r ≡ header j))
-  said-head j r = exE 𝓤 _ (λ ws. snd∗ 𝓤 (sem 𝓤 H A (lasts head.ended (κ, tt) (x, (j, tt)) ws)) (fact 𝓤 (r ≡ header j)))
-
-  abbrev to-tail : ℕ → Tail 𝓤 H A mem run .Ghost
-  to-tail j = (((κ, tt), (q, tt), tt, (x, (j, tt)), (v ∷ [], (vint w64 j ∷ [], tt))), tt)
-
-  abbrev Tails : ℕ → ℕ → SProp 𝓤
-  Tails j = ensured 𝓤 H A tail.ended (tail.clauses 𝓤 H A mem run) (κ, tt) (x, (j, tt)) tt
-
-  said-tail : (j r : ℕ) → ent 𝓤 (Tails j r) (fact 𝓤 (r ≡ last j))
-  said-tail j r = exE 𝓤 _ (λ ws. snd∗ 𝓤 (sem 𝓤 H A (lasts tail.ended (κ, tt) (x, (j, tt)) ws)) (fact 𝓤 (r ≡ last j)))
-
   abbrev to-cross : ℕ → Cross 𝓤 H A mem run .Ghost
   to-cross j = (((κ, tt), (q, tt), tt, (x, (j, tt)), (v ∷ [], (vint w64 j ∷ [], tt))), tt)
 
@@ -213,10 +188,10 @@ module _ {M : Type 1} (𝓤 : URA M) (H : Heap 𝓤) (A : Atoms 𝓤) (W : Given
           assigns ! (bin ! (load ! (from ! (stop !)) (look ! 3 refl)) (load ! (from ! (stop !)) (look ! 4 refl)) tt) (from ! (stop !)) (init ! 5 refl (tt, tt)) $
           rewrite ! 5 (λ (t : Bool). ‵ (fat fullShare tyBool l₆ 0 (vbool t))) (lt-ltb j n small) refl $
           stays ! (load ! (from ! (stop !)) (look ! 5 refl)) $
-          asks 𝓤 H A W κ q b o γ ys ! fm (Head 𝓤 H A mem run) known-head (to-head j) (header j) (Heads j) (passes 𝓤 H A W κ q b o γ ys small j fj) (λ u. id⊢ 𝓤 _) (said-head j)
+          reads-header 𝓤 H A W mem run κ q b o γ ys ! fm known-head j small fj
           (and-then ! (load ! (from ! (stop !)) (look ! 8 refl)) (and-then ! (load ! (from ! (stop !)) (look ! 3 refl)) (no-more !))) (λ gh.
           land ! (from ! (stop !)) (store ! 4 refl (tt, record { fits = gh })) $
-          asks 𝓤 H A W κ q b o γ ys ! fm (Tail 𝓤 H A mem run) known-tail (to-tail j) (last j) (Tails j) (passes 𝓤 H A W κ q b o γ ys small j fj) (λ u. id⊢ 𝓤 _) (said-tail j)
+          reads-last 𝓤 H A W mem run κ q b o γ ys ! fm known-tail j small fj
           (and-then ! (load ! (from ! (stop !)) (look ! 8 refl)) (and-then ! (load ! (from ! (stop !)) (look ! 3 refl)) (no-more !))) (λ gl.
           land ! (from ! (stop !)) (init ! 6 refl (tt, record { fits = gl })) $
           asks 𝓤 H A W κ q b o γ ys ! fm (Cross 𝓤 H A mem run) known-cross (to-cross j) (crossed j) (Crosses j) (passes 𝓤 H A W κ q b o γ ys (small, few) j fj) (λ u. id⊢ 𝓤 _) (said-cross j)

@@ -46,12 +46,11 @@ use Rattle.model.proofs.Loop as T
 use Rattle.graph.specs.Lent.{lowestUpTo}
 use Rattle.graph.proofs.Found.{lowest-more, lowest-first}
 use Rattle.graph.proofs.Lent as lent
-use Rattle.graph.proofs.Lent.{word, slice, tells, passes, asks, counts}
-use Rattle.graph.proofs.header_at as head
+use Rattle.graph.proofs.Lent.{word, slice, tells, passes, counts}
+use Rattle.graph.proofs.Readers.{Head, Tail, reads-header, reads-last}
 use Rattle.graph.proofs.header_at.Symbol as head-def
 use Rattle.graph.proofs.header_at.Symbol.{name as #head}
 use Rattle.graph.proofs.header_at.Met as head-thm
-use Rattle.graph.proofs.last_at as tail
 use Rattle.graph.proofs.last_at.Symbol as tail-def
 use Rattle.graph.proofs.last_at.Symbol.{name as #tail}
 use Rattle.graph.proofs.last_at.Met as tail-thm
@@ -70,12 +69,6 @@ stayed = (stay-none-slice (0 ∷ []) tt (plain (λ _. T.the-row)) yes, (stay-non
 
 module _ {M : Type 1} (𝓤 : URA M) (H : Heap 𝓤) (A : Atoms 𝓤) (mem : Memory → SProp 𝓤) (run : Routine → Fun 𝓤) where
   -- the contracts that the proof cites
-  abbrev Head : Contract 𝓤
-  Head = tripleOf 𝓤 H A head.signature (head.spec 𝓤 H A mem run)
-
-  abbrev Tail : Contract 𝓤
-  Tail = tripleOf 𝓤 H A tail.signature (tail.spec 𝓤 H A mem run)
-
   abbrev Next : Contract 𝓤
   Next = tripleOf 𝓤 H A next.signature (next.spec 𝓤 H A mem run)
 
@@ -118,24 +111,6 @@ module _ {M : Type 1} (𝓤 : URA M) (H : Heap 𝓤) (A : Atoms 𝓤) (W : Given
       nothing ! $ move ! (1 ∷ 0 ∷ []) $ fjoin ! $ move ! (2 ∷ 0 ∷ []) $ fjoin ! $ frame ! $ done !
 
   -- what the callees are passed, and what of their posts is heard
-  abbrev to-head : Head 𝓤 H A mem run .Ghost
-  to-head = (((κ, tt), (q, tt), tt, (x, (j, tt)), (v ∷ [], (vint w64 j ∷ [], tt))), tt)
-
-  abbrev Heads : ℕ → SProp 𝓤
-  Heads = ensured 𝓤 H A head.ended (head.clauses 𝓤 H A mem run) (κ, tt) (x, (j, tt)) tt
-
-  said-head : (r : ℕ) → ent 𝓤 (Heads r) (fact 𝓤 (r ≡ header))
-  said-head r = exE 𝓤 _ (λ ws. snd∗ 𝓤 (sem 𝓤 H A (lasts head.ended (κ, tt) (x, (j, tt)) ws)) (fact 𝓤 (r ≡ header)))
-
-  abbrev to-tail : ℕ → Tail 𝓤 H A mem run .Ghost
-  to-tail i = (((κ, tt), (q, tt), tt, (x, (i, tt)), (v ∷ [], (vint w64 i ∷ [], tt))), tt)
-
-  abbrev Tails : ℕ → ℕ → SProp 𝓤
-  Tails i = ensured 𝓤 H A tail.ended (tail.clauses 𝓤 H A mem run) (κ, tt) (x, (i, tt)) tt
-
-  said-tail : (i r : ℕ) → ent 𝓤 (Tails i r) (fact 𝓤 (r ≡ graph.loop ys i .last))
-  said-tail i r = exE 𝓤 _ (λ ws. snd∗ 𝓤 (sem 𝓤 H A (lasts tail.ended (κ, tt) (x, (i, tt)) ws)) (fact 𝓤 (r ≡ graph.loop ys i .last)))
-
   abbrev up-to : ℕ → ℕ
   up-to i = lowestUpTo (found i) i (test i)
 
@@ -193,7 +168,7 @@ module _ {M : Type 1} (𝓤 : URA M) (H : Heap 𝓤) (A : Atoms 𝓤) (W : Given
           assigns ! (bin ! (load ! (from ! (stop !)) (look ! 3 refl)) (load ! (from ! (stop !)) (look ! 7 refl)) tt) (from ! (stop !)) (init ! 4 refl (tt, tt)) $
           rewrite ! 4 (λ (t : Bool). ‵ (fat fullShare tyBool l₇ 0 (vbool t))) (lt-ltb i j small) refl $
           stays ! (load ! (from ! (stop !)) (look ! 4 refl)) $
-          asks 𝓤 H A W κ q b o γ ys ! fm (Tail 𝓤 H A mem run) known-tail (to-tail i) (graph.loop ys i .last) (Tails i) (passes 𝓤 H A W κ q b o γ ys here i (fits i (omega arith))) (λ u. id⊢ 𝓤 _) (said-tail i)
+          reads-last 𝓤 H A W mem run κ q b o γ ys ! fm known-tail i here (fits i (omega arith))
           (and-then ! (load ! (from ! (stop !)) (look ! 6 refl)) (and-then ! (load ! (from ! (stop !)) (look ! 3 refl)) (no-more !))) (λ ge.
           land ! (from ! (stop !)) (init ! 5 refl (tt, record { fits = ge })) $
           use0 W (raw (Next 𝓤 H A mem run .pre (to-next i))) (goes-next i (omega arith) (fits i (omega arith)) ft ge gh gl) $
@@ -235,10 +210,10 @@ module _ {M : Type 1} (𝓤 : URA M) (H : Heap 𝓤) (A : Atoms 𝓤) (W : Given
         pass1 ! (init ! 14 refl (tt, (tt, (record { fits = g .0 }, tt)))) $ pass1 ! (init ! 12 refl (tt, record { fits = fits j (omega arith) })) $ pass0 ! $
         move ! (19 ∷ []) $ fsplit ! $ move ! (20 ∷ 0 ∷ []) $
         -- [token; the list; what else is passed; _8; …; _7; …; ..; _0; …]
-        asks 𝓤 H A W κ q b o γ ys ! fm (Head 𝓤 H A mem run) known-head to-head header Heads (passes 𝓤 H A W κ q b o γ ys low j (fits j (omega arith))) (λ u. id⊢ 𝓤 _) said-head
+        reads-header 𝓤 H A W mem run κ q b o γ ys ! fm known-head j low (fits j (omega arith))
         (and-then ! (load ! (from ! (stop !)) (look ! 17 refl)) (and-then ! (load ! (from ! (stop !)) (look ! 15 refl)) (no-more !))) (λ gh.
         land ! (from ! (stop !)) (init ! 13 refl (tt, record { fits = gh })) $
-        asks 𝓤 H A W κ q b o γ ys ! fm (Tail 𝓤 H A mem run) known-tail (to-tail j) last (Tails j) (passes 𝓤 H A W κ q b o γ ys low j (fits j (omega arith))) (λ u. id⊢ 𝓤 _) (said-tail j)
+        reads-last 𝓤 H A W mem run κ q b o γ ys ! fm known-tail j low (fits j (omega arith))
         (and-then ! (load ! (from ! (stop !)) (look ! 17 refl)) (and-then ! (load ! (from ! (stop !)) (look ! 15 refl)) (no-more !))) (λ gl.
         land ! (from ! (stop !)) (init ! 11 refl (tt, record { fits = gl })) $
         assigns ! (of-opd ! (lit ! tt)) (from ! (stop !)) (init ! 9 refl (tt, record { fits = lit< tt })) $

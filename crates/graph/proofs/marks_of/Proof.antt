@@ -48,12 +48,11 @@ use Rattle.graph.specs.Words.{markLoop, marksOf}
 use Rattle.graph.specs.Lent.{Ranged}
 use Rattle.graph.proofs.Words.{marks-none, marks-more}
 use Rattle.graph.proofs.Lent as lent
-use Rattle.graph.proofs.Lent.{word, slice, table, Marks, marks-val, Good, zeros-val, zeros-good, marks-typed, marks-make, marks, passes, asks, counts}
-use Rattle.graph.proofs.header_at as head
+use Rattle.graph.proofs.Lent.{word, slice, table, Marks, marks-val, Good, zeros-val, zeros-good, marks-typed, marks-make, marks, passes, counts}
+use Rattle.graph.proofs.Readers.{Head, Tail, reads-header, reads-last}
 use Rattle.graph.proofs.header_at.Symbol as head-def
 use Rattle.graph.proofs.header_at.Symbol.{name as #head}
 use Rattle.graph.proofs.header_at.Met as head-thm
-use Rattle.graph.proofs.last_at as tail
 use Rattle.graph.proofs.last_at.Symbol as tail-def
 use Rattle.graph.proofs.last_at.Symbol.{name as #tail}
 use Rattle.graph.proofs.last_at.Met as tail-thm
@@ -72,12 +71,6 @@ stayed = (stay-none-slice (0 ∷ []) tt (plain (λ _. T.the-row)) yes, tt)
 
 module _ {M : Type 1} (𝓤 : URA M) (H : Heap 𝓤) (A : Atoms 𝓤) (mem : Memory → SProp 𝓤) (run : Routine → Fun 𝓤) where
   -- the contracts that the proof cites
-  abbrev Head : Contract 𝓤
-  Head = tripleOf 𝓤 H A head.signature (head.spec 𝓤 H A mem run)
-
-  abbrev Tail : Contract 𝓤
-  Tail = tripleOf 𝓤 H A tail.signature (tail.spec 𝓤 H A mem run)
-
   abbrev Next : Contract 𝓤
   Next = tripleOf 𝓤 H A next.signature (next.spec 𝓤 H A mem run)
 
@@ -119,24 +112,6 @@ module _ {M : Type 1} (𝓤 : URA M) (H : Heap 𝓤) (A : Atoms 𝓤) (W : Given
       frame ! $ owned ! Marks (Is Marks) (marks-make 𝓤 H A W) (made n) _ g $ nothing ! $ move ! (2 ∷ 0 ∷ []) $ fjoin ! $ frame ! $ done !
 
   -- what the callees are passed, and what of their posts is heard
-  abbrev to-head : ℕ → Head 𝓤 H A mem run .Ghost
-  to-head j = (((κ, tt), (q, tt), tt, (x, (j, tt)), (v ∷ [], (vint w64 j ∷ [], tt))), tt)
-
-  abbrev Heads : ℕ → ℕ → SProp 𝓤
-  Heads j = ensured 𝓤 H A head.ended (head.clauses 𝓤 H A mem run) (κ, tt) (x, (j, tt)) tt
-
-  said-head : (j r : ℕ) → ent 𝓤 (Heads j r) (fact 𝓤 (r ≡ header j))
-  said-head j r = exE 𝓤 _ (λ ws. snd∗ 𝓤 (sem 𝓤 H A (lasts head.ended (κ, tt) (x, (j, tt)) ws)) (fact 𝓤 (r ≡ header j)))
-
-  abbrev to-tail : ℕ → Tail 𝓤 H A mem run .Ghost
-  to-tail j = (((κ, tt), (q, tt), tt, (x, (j, tt)), (v ∷ [], (vint w64 j ∷ [], tt))), tt)
-
-  abbrev Tails : ℕ → ℕ → SProp 𝓤
-  Tails j = ensured 𝓤 H A tail.ended (tail.clauses 𝓤 H A mem run) (κ, tt) (x, (j, tt)) tt
-
-  said-tail : (j r : ℕ) → ent 𝓤 (Tails j r) (fact 𝓤 (r ≡ last j))
-  said-tail j r = exE 𝓤 _ (λ ws. snd∗ 𝓤 (sem 𝓤 H A (lasts tail.ended (κ, tt) (x, (j, tt)) ws)) (fact 𝓤 (r ≡ last j)))
-
   abbrev marked : ℕ → List ℕ
   marked i = markLoop (made i) (header i) (last i) i
 
@@ -190,10 +165,10 @@ module _ {M : Type 1} (𝓤 : URA M) (H : Heap 𝓤) (A : Atoms 𝓤) (W : Given
           assigns ! (bin ! (load ! (from ! (stop !)) (look ! 3 refl)) (load ! (from ! (stop !)) (look ! 4 refl)) tt) (from ! (stop !)) (init ! 5 refl (tt, tt)) $
           rewrite ! 5 (λ (t : Bool). ‵ (fat fullShare tyBool l₅ 0 (vbool t))) (lt-ltb i n small) refl $
           stays ! (load ! (from ! (stop !)) (look ! 5 refl)) $
-          asks 𝓤 H A W κ q b o γ ys ! fm (Head 𝓤 H A mem run) known-head (to-head i) (header i) (Heads i) (passes 𝓤 H A W κ q b o γ ys small i fi) (λ u. id⊢ 𝓤 _) (said-head i)
+          reads-header 𝓤 H A W mem run κ q b o γ ys ! fm known-head i small fi
           (and-then ! (load ! (from ! (stop !)) (look ! 7 refl)) (and-then ! (load ! (from ! (stop !)) (look ! 3 refl)) (no-more !))) (λ gh.
           land ! (from ! (stop !)) (store ! 4 refl (tt, record { fits = gh })) $
-          asks 𝓤 H A W κ q b o γ ys ! fm (Tail 𝓤 H A mem run) known-tail (to-tail i) (last i) (Tails i) (passes 𝓤 H A W κ q b o γ ys small i fi) (λ u. id⊢ 𝓤 _) (said-tail i)
+          reads-last 𝓤 H A W mem run κ q b o γ ys ! fm known-tail i small fi
           (and-then ! (load ! (from ! (stop !)) (look ! 7 refl)) (and-then ! (load ! (from ! (stop !)) (look ! 3 refl)) (no-more !))) (λ gl.
           land ! (from ! (stop !)) (init ! 6 refl (tt, record { fits = gl })) $
           use0 W (raw (Next 𝓤 H A mem run .pre (to-next i))) (goes-next i (low-header, (ranged .last i small, low)) fi gm gh gl) $
