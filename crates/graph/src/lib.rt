@@ -150,7 +150,7 @@ fn judge_vertices(l: &[u64; 1446]) -> Verdict
     Verdict::Accepted
 }
 
-// The loops reach their rules as a lent list.
+// The loops reach their rules as a lent list. What takes the list is proved by hand, so it only reads, counts and calls; what it calls takes numbers.
 fn header_at(loops: &[Loop], i: usize) -> usize
     requires { ⌜ i < length (now loops) ⌝ }
     ensures { λ r. ⌜ r ≡ loop (now (loops .entry)) i .header ⌝ }
@@ -352,7 +352,7 @@ fn judge_words(l: &[u64; 1446], marks: [u32; 256]) -> Verdict
     judge_returns(l, returned_to(l, &around, &marks))
 }
 
-// Rules 7 to 9 on what was found of the loops: the lowest bad range, or their number, and their marks.
+// Rules 7 to 9 on what was found of the loops: the lowest that has a bad range, or their number, and their marks.
 fn judge_found(l: &[u64; 1446], bad: usize, marks: [u32; 256]) -> Verdict
     requires { ⌜ Placed (now l) × Found (loopsIn (now l)) (verticesIn (now l)) bad marks ⌝ }
     ensures { λ r. ⌜ r ≡ loopRules (verticesIn (now (l .entry))) (edgesIn (now (l .entry))) (loopsIn (now (l .entry))) ⌝ }
