@@ -12,7 +12,7 @@ use Rattle.model.specs.declared.Problem.{Problem}
 use Rattle.model.specs.Costs.{functionOf}
 use Rattle.model.specs.Results.{Member}
 use Rattle.model.proofs.Cases.{by-bool, true-not-false}
-use Rattle.interference.proofs.Bits.{none-in-zero, or-left, or-right, or-only, pow-member, pow-only}
+use Rattle.bits.proofs.Bits.{none-in-zero, or-left, or-right, or-only, pow-member, pow-only}
 use Rattle.latest.proofs.Bits.{and-members}
 use Rattle.charges.specs.Tests.{flagged, EarlyAt, ColdBelow, ColdWord}
 

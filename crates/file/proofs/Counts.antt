@@ -1,13 +1,14 @@
--- Numbers that were read or judged good have counts within their lists' room, as the graph checks ask.
+-- Numbers that were read or judged good have counts within their lists' room, and ends of edges and ranges within the vertices, as the graph checks ask.
 use Prim.Native.Nat.{ℕ, _<_}
 use mathlib.Core.Path.{_≡_, sym, _∙_, ap}
 use mathlib.Core.List.{List}
+use native.Mathlib.Omega.{arith}
 use lib.ListN.{length, getD, replicate, length-replicate}
 use Rattle.model.specs.declared.Fields.{Fields}
 use Rattle.model.specs.declared.Fields.the-variants.{Done}
 use Rattle.model.specs.File.{scanned, numberCount, firstField, readFields, checkFields}
 use Rattle.fields.specs.Valid.{edition}
-use Rattle.graph.specs.Counts.{Counted}
+use Rattle.graph.specs.Counts.{Counted, Placed}
 use Rattle.facts.proofs.Facts.{FieldFacts, field-facts}
 use Rattle.roundtrip.proofs.Turns.{is-judged}
 use Rattle.roundtrip.proofs.Reading.{ReadBack, read-back}
@@ -16,6 +17,17 @@ pub counted : (l : List ℕ) (end : ℕ) → checkFields l ≡ Done end → Coun
 counted l end e =
     let f : FieldFacts l = field-facts l end e in
     record { some-vertex = f .some-vertex; vertices = f .vertices; edges = f .edges; loops = f .loops }
+
+pub placed : (l : List ℕ) (end : ℕ) → checkFields l ≡ Done end → Placed l
+placed l end e =
+    let f : FieldFacts l = field-facts l end e in
+    record {
+      counted = counted l end e;
+      from = λ i h. omega (arith, f .from i h, f .vertices);
+      to = λ i h. omega (arith, f .to i h, f .vertices);
+      header = f .header;
+      last = λ i h. omega (arith, f .last i h, f .vertices);
+    }
 
 -- Numbers that were read pass the checks of writing.
 module _ (s : List ℕ) (byte : (i : ℕ) → getD s i 0 < 256) (f : Fields) (l : List ℕ) (is : scanned f l ≡ readFields s) (end : ℕ) (e : f ≡ Done end) where
@@ -30,5 +42,5 @@ module _ (s : List ℕ) (byte : (i : ℕ) → getD s i 0 < 256) (f : Fields) (l 
   pub checked-read : checkFields l ≡ Done end
   checked-read = is-judged (again .judged)
 
-  pub counted-read : Counted l
-  counted-read = counted l end checked-read
+  pub placed-read : Placed l
+  placed-read = placed l end checked-read

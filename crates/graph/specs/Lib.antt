@@ -1,2 +1,5 @@
 pub mod Counts
 pub mod Plain
+pub mod Marks
+pub mod Words
+pub mod Lent

@@ -21,7 +21,7 @@ use Rattle.sound.proofs.Flow.{first, further, complete, fresh-start, fresh-furt
 use Rattle.interference.specs.Words.{Has, Step, Row, RowMember, Sound}
 use Rattle.interference.specs.Rounds.{Closed}
 use Rattle.interference.specs.Flows.{from, to, Gains, Leaves, InSet, setFlow, SetTable, IsFresh, freshFlow, FreshTable}
-use Rattle.interference.proofs.Bits.{none-in-zero}
+use Rattle.bits.proofs.Bits.{none-in-zero}
 use Rattle.interference.proofs.Steps.{restated}
 use Rattle.interference.proofs.Sweeps.{Laws}
 

@@ -13,7 +13,7 @@ use borrow.Author.Tests.{eqb-true, eqb-false}
 use Rattle.model.specs.Results.{Member}
 use Rattle.model.proofs.Cases.{by-bool, by-order, true-not-false}
 use Rattle.interference.specs.Words.{Has, sum, one, Grown, Step, Row}
-use Rattle.interference.proofs.Bits.{le-or, or-left, or-right, or-only}
+use Rattle.bits.proofs.Bits.{le-or, or-left, or-right, or-only}
 
 pub sum-set : (ws : List ℕ) (i x : ℕ) → i < length ws → sum (set ws i x) + getD ws i 0 ≡ sum ws + x
 unfolding sum

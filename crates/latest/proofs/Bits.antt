@@ -6,7 +6,7 @@ use native.Mathlib.Omega.{arith}
 use native.Mathlib.Nat.{pow-suc, mul-comm, div-one, div-div-eq-div-mul}
 use lib.Bits.{bitAnd, bitOr, bitXor, differ, and-step, or-step, xor-step, and-shr, or-shr, xor-shr}
 use Rattle.model.specs.Results.{Member}
-use Rattle.interference.proofs.Bits.{none-in-zero, with-members}
+use Rattle.bits.proofs.Bits.{none-in-zero, with-members}
 
 -- Both words have the member.
 module _ (a b k : ℕ) where

@@ -12,7 +12,7 @@ use borrow.Author.Count.{below-none, below-more}
 use Rattle.model.specs.Layouts.{regionOf}
 use Rattle.model.specs.Results.{Member}
 use Rattle.model.proofs.Cases.{by-bool}
-use Rattle.interference.proofs.Bits.{none-in-zero}
+use Rattle.bits.proofs.Bits.{none-in-zero}
 use Rattle.latest.specs.Rivals.{Members, RivalsBelow}
 
 module _ (layout : List ℕ) where

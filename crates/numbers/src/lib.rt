@@ -90,7 +90,7 @@ fn edges_of(l: &[u64; 1446]) -> [Edge; 512]
     out
 }
 
-fn loops_of(l: &[u64; 1446]) -> [Loop; 32]
+pub fn loops_of(l: &[u64; 1446]) -> [Loop; 32]
     ensures { λ r. ⌜ r ≡ table 32 (loopAt (now (l .entry))) ⌝ }
 {
     let mut out = [Loop {

@@ -1,6 +1,6 @@
 -- `charges::early_at` has the function of a vertex that is not flagged and that its word has.
 use Rattle.lookup.proofs.Places.{few-vertices}
-use Rattle.interference.proofs.Bits.{one-shl}
+use Rattle.bits.proofs.Bits.{one-shl}
 use Rattle.charges.proofs.Sizes.{own-small}
 use Rattle.charges.proofs.Cold.{not-free, as-fresh}
 use native.Mathlib.Omega.{arith}

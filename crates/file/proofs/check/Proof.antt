@@ -1,6 +1,6 @@
 -- `check` meets its definition: the fields, then the graph.
 use mathlib.Core.Path.{sym, _∙_}
-use Rattle.file.proofs.Counts.{counted}
+use Rattle.file.proofs.Counts.{placed}
 use Rattle.file.proofs.Stages.{bad-fields, after-graph}
 use borrow.Author.Needs.{needs}
 use Rattle.file.proofs.check.Statement.{statement}
@@ -19,7 +19,7 @@ returns : tie.Need-returns
 returns c = bad-fields _ _ (c .before .before .check-fields .ensures) _ (c .enum-told .given .1)
 
 judge-requires : tie.Need-judge-requires
-judge-requires c κs = counted _ _ (sym (c .before .before .before .check-fields .ensures) ∙ c .before .fields .given .1)
+judge-requires c κs = placed _ _ (sym (c .before .before .before .check-fields .ensures) ∙ c .before .fields .given .1)
 
 enum-told-2 : tie.Need-enum-told-2
 enum-told-2 c = search needs

@@ -2,7 +2,7 @@
 use Prim.Native.Nat.{ℕ}
 use native.Mathlib.Omega.{arith}
 use lib.ListN.{length-replicate}
-use Rattle.file.proofs.Counts.{counted-read}
+use Rattle.file.proofs.Counts.{placed-read}
 use Rattle.file.proofs.Stages.{read-refused, left-over, graph-judged}
 use borrow.Author.Needs.{needs}
 use Rattle.file.proofs.read_numbers.Statement.{statement}
@@ -27,7 +27,7 @@ returns-2 : tie.Need-returns-2
 returns-2 c = left-over _ _ _ (c .before .before .before .before .read-fields .ensures) _ (c .before .before .fields .given .1) (c .if1 .taken)
 
 judge-requires : tie.Need-judge-requires
-judge-requires c κs = counted-read (c .before .before .before .before .before .before .before .before .before .args .bytes .now) (λ i. omega (arith, c .before .before .before .before .before .before .before .before .shared-slice-known .given i)) _ _ (c .before .before .before .before .before .read-fields .ensures) _ (c .before .before .before .fields .given .1)
+judge-requires c κs = placed-read (c .before .before .before .before .before .before .before .before .before .args .bytes .now) (λ i. omega (arith, c .before .before .before .before .before .before .before .before .shared-slice-known .given i)) _ _ (c .before .before .before .before .before .read-fields .ensures) _ (c .before .before .before .fields .given .1)
 
 returns-3 : tie.Need-returns-3
 returns-3 c = graph-judged (c .before .before .before .before .before .before .before .before .before .before .args .bytes .now) _ _ (c .before .before .before .before .before .before .read-fields .ensures) _ (c .before .before .before .before .fields .given .1) (λ i. omega (arith, c .before .before .before .before .before .before .before .before .before .shared-slice-known .given i)) (c .before .before .if1 .left) _ (c .judge .ensures)

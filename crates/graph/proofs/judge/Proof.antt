@@ -1,6 +1,7 @@
--- `graph::judge` is its definition: each rule on the good case of the one before.
+-- `graph::judge` is its definition: rules 7 to 9 on the good case of rule 6.
 use mathlib.Core.Path.{_∙_}
 use Rattle.model.specs.Graph.{graphRules}
+use Rattle.graph.proofs.Places.{lent-loops}
 use Rattle.graph.proofs.Rules.{stops, goes}
 use borrow.Author.Needs.{needs}
 use Rattle.graph.proofs.judge.Statement.{statement}
@@ -19,50 +20,22 @@ returns : tie.Need-returns
 unfolding graphRules
 returns c = stops _ (c .before .before .judge-vertices .ensures) (c .enum-told2 .given .1)
 
-judge-ranges-requires : tie.Need-judge-ranges-requires
-judge-ranges-requires c κs = search needs
+loops-of-requires : tie.Need-loops-of-requires
+loops-of-requires c κs = search needs
 
-enum-told-3 : tie.Need-enum-told-3
-enum-told-3 c = search needs
+loop-count-requires : tie.Need-loop-count-requires
+loop-count-requires c κs = search needs
 
-enum-told-4 : tie.Need-enum-told-4
-enum-told-4 c = search needs
+judge-lent-requires : tie.Need-judge-lent-requires
+judge-lent-requires c κs =
+    let placed = c .before .before .before .before .before .pre in
+    (placed, lent-loops _ placed (c .before .loops-of .ensures) (c .loop-count .ensures))
 
 returns-2 : tie.Need-returns-2
 unfolding graphRules
 returns-2 c =
-    stops _ (c .before .before .judge-ranges .ensures) (c .enum-told4 .given .1)
+    c .judge-lent .ensures
     ∙ goes _ (c .before .before .before .before .before .judge-vertices .ensures) (c .before .before .before .enum-told .given .1)
-
-judge-edges-requires : tie.Need-judge-edges-requires
-judge-edges-requires c κs = search needs
-
-enum-told-5 : tie.Need-enum-told-5
-enum-told-5 c = search needs
-
-enum-told-6 : tie.Need-enum-told-6
-enum-told-6 c = search needs
-
-returns-3 : tie.Need-returns-3
-unfolding graphRules
-returns-3 c =
-    stops _ (c .before .before .judge-edges .ensures) (c .enum-told6 .given .1)
-    ∙ (goes _ (c .before .before .before .before .before .judge-ranges .ensures) (c .before .before .before .enum-told3 .given .1)
-    ∙ goes _ (c .before .before .before .before .before .before .before .before .judge-vertices .ensures)
-    (c .before .before .before .before .before .before .enum-told .given .1))
-
-judge-returns-requires : tie.Need-judge-returns-requires
-judge-returns-requires c κs = search needs
-
-returns-4 : tie.Need-returns-4
-unfolding graphRules
-returns-4 c =
-    c .judge-returns .ensures
-    ∙ (goes _ (c .before .before .before .judge-edges .ensures) (c .before .enum-told5 .given .1)
-    ∙ (goes _ (c .before .before .before .before .before .before .judge-ranges .ensures)
-    (c .before .before .before .before .enum-told3 .given .1)
-    ∙ goes _ (c .before .before .before .before .before .before .before .before .before .judge-vertices .ensures)
-    (c .before .before .before .before .before .before .before .enum-told .given .1)))
 
 pub judge-spec : {M : Type 1} → statement M
 judge-spec =
@@ -72,13 +45,7 @@ judge-spec =
     enum-told
     enum-told-2
     returns
-    judge-ranges-requires
-    enum-told-3
-    enum-told-4
-    returns-2
-    judge-edges-requires
-    enum-told-5
-    enum-told-6
-    returns-3
-    judge-returns-requires
-    returns-4)
+    loops-of-requires
+    loop-count-requires
+    judge-lent-requires
+    returns-2)

@@ -1,6 +1,6 @@
 -- `graph::lacks_edge` is its definition: one of the two edges is lacking.
 use mathlib.Core.Path.{sym, _∙_}
-use Rattle.model.specs.Graph.{lacks}
+use borrow.Author.Tests.{lt-ltb, le-ltb}
 use borrow.Author.Needs.{needs}
 use Rattle.graph.proofs.lacks_edge.Statement.{statement}
 use Rattle.graph.proofs.lacks_edge.Tie as tie
@@ -9,15 +9,16 @@ lacks-entry-requires : tie.Need-lacks-entry-requires
 lacks-entry-requires c κs = search needs
 
 returns : tie.Need-returns
-unfolding lacks
 returns c = rw (sym (c .before .lacks-entry .ensures) ∙ c .if1 .taken)
 
-lacks-exit-requires : tie.Need-lacks-exit-requires
-lacks-exit-requires c κs = search needs
+sub-if2 : tie.Need-sub-if2
+sub-if2 c = search needs
 
 returns-2 : tie.Need-returns-2
-unfolding lacks
-returns-2 c = rw (sym (c .before .before .lacks-entry .ensures) ∙ c .before .if1 .left, ← c .lacks-exit .ensures)
+returns-2 c = rw (sym (c .before .before .lacks-entry .ensures) ∙ c .before .if1 .left, lt-ltb _ _ (c .if2 .taken))
+
+returns-3 : tie.Need-returns-3
+returns-3 c = rw (sym (c .before .before .lacks-entry .ensures) ∙ c .before .if1 .left, le-ltb _ _ (c .if2 .left))
 
 pub lacks-edge-spec : {M : Type 1} → statement M
-lacks-edge-spec = tie.close (tie.spec lacks-entry-requires returns lacks-exit-requires returns-2)
+lacks-edge-spec = tie.close (tie.spec lacks-entry-requires returns sub-if2 returns-2 returns-3)

@@ -1,5 +1,5 @@
 -- `below` has the numbers below n.
-use Rattle.interference.proofs.Bits.{below-members}
+use Rattle.bits.proofs.Bits.{below-members}
 use borrow.Author.Needs.{needs}
 use Rattle.interference.proofs.below.Statement.{statement}
 use Rattle.interference.proofs.below.Tie as tie

@@ -1,6 +1,6 @@
 -- `brought` gives the members that an edge brings.
 use mathlib.Core.Path.{sym}
-use Rattle.interference.proofs.Bits.{one-shl, none-in-zero, with-members}
+use Rattle.bits.proofs.Bits.{one-shl, none-in-zero, with-members}
 use borrow.Author.Needs.{needs}
 use Rattle.interference.proofs.brought.Statement.{statement}
 use Rattle.interference.proofs.brought.Tie as tie

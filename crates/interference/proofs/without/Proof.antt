@@ -1,5 +1,5 @@
 -- `without` takes one member out.
-use Rattle.interference.proofs.Bits.{one-shl, without-members}
+use Rattle.bits.proofs.Bits.{one-shl, without-members}
 use borrow.Author.Needs.{needs}
 use Rattle.interference.proofs.without.Statement.{statement}
 use Rattle.interference.proofs.without.Tie as tie

@@ -2,7 +2,7 @@
 use Prim.Native.Nat.{_-_, _≤_}
 use Rattle.model.specs.Numbers.{problemOf}
 use Rattle.lookup.proofs.Places.{few-functions}
-use Rattle.interference.proofs.Bits.{one-shl, with-members}
+use Rattle.bits.proofs.Bits.{one-shl, with-members}
 use Rattle.latest.specs.Rivals.{Members}
 use Rattle.latest.proofs.Gathered.{no-members, one-member, all-members}
 use borrow.Author.Needs.{needs}

@@ -1,5 +1,5 @@
 -- `latest::renewed` takes the rivals out and adds one member.
-use Rattle.interference.proofs.Bits.{one-shl}
+use Rattle.bits.proofs.Bits.{one-shl}
 use Rattle.latest.proofs.Bits.{renewed-members}
 use borrow.Author.Needs.{needs}
 use Rattle.latest.proofs.renewed.Statement.{statement}

@@ -1,0 +1,1 @@
+// Laws of words as sets of bits: the members of a word after `|`, `&`, `^`, `<<` and `>>`.
