@@ -40,11 +40,11 @@ module _ (p : Problem) (layout : List ℕ) where
 
   bounded-once : (x y : Bound) → BoundIs p layout x → BoundIs p layout y → x ≡ y
   bounded-once x y a b = λ i. record {
-        need = record { 0 = needs i };
-        contested = counts i;
-        first = record { 0 = firsts i };
-        bound = record { 0 = bounds i };
-      }
+    need = record { 0 = needs i };
+    contested = counts i;
+    first = record { 0 = firsts i };
+    bound = record { 0 = bounds i };
+  }
     where
       contested : a .contested ≡ b .contested
       contested = same-contested _ _ _ _ (a .told) (b .told)

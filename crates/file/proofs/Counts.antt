@@ -6,7 +6,7 @@ use native.Mathlib.Omega.{arith}
 use lib.ListN.{length, getD, replicate, length-replicate}
 use Rattle.model.specs.declared.Fields.{Fields}
 use Rattle.model.specs.declared.Fields.the-variants.{Done}
-use Rattle.model.specs.File.{scanned, numberCount, firstField, readFields, checkFields}
+use Rattle.model.specs.File.{Scan, scanned, numberCount, firstField, readFrom, readFields, checkFields}
 use Rattle.fields.specs.Valid.{edition}
 use Rattle.graph.specs.Counts.{Counted, Placed}
 use Rattle.facts.proofs.Facts.{FieldFacts, field-facts}
@@ -28,6 +28,14 @@ placed l end e =
       header = f .header;
       last = λ i h. omega (arith, f .last i h, f .vertices);
     }
+
+-- Reading into places that are all zero is what Read does.
+module _ (z : List ℕ) (zeros : z ≡ replicate numberCount 0) where
+  pub zeros-long : length z ≡ numberCount
+  zeros-long = ap length zeros ∙ length-replicate {A = ℕ} numberCount 0
+
+  pub from-zeros : (s : List ℕ) (scan : Scan) → scan ≡ readFrom numberCount s 0 0 firstField z → scan ≡ readFields s
+  from-zeros s scan is = is ∙ ap (readFrom numberCount s 0 0 firstField) zeros
 
 -- Numbers that were read pass the checks of writing.
 module _ (s : List ℕ) (byte : (i : ℕ) → getD s i 0 < 256) (f : Fields) (l : List ℕ) (is : scanned f l ≡ readFields s) (end : ℕ) (e : f ≡ Done end) where

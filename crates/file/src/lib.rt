@@ -6,7 +6,8 @@ use model::Refusal;
 use model::Verdict;
 use model::WriteAnswer;
 ghost use mathlib.Core.Path.{_≡_};
-ghost use lib.ListN.{length};
+ghost use lib.ListN.{length, replicate};
+ghost use Rattle.model.specs.File.{numberCount};
 ghost use Rattle.model.specs.Operations.{readFile, writeProblem, writtenBuffer};
 ghost use Rattle.file.specs.Steps.{refusalIn, NumbersRead, checkNumbers};
 
@@ -20,12 +21,12 @@ pub fn refusal_in(answer: Fields) -> Refusal
     }
 }
 
-// Reads a file's numbers, every spare place zero. Where Read accepts, they are its problem's, and they have passed the problem's own checks: an
+// Reads a file's numbers into places that are all zero. Where Read accepts, they are its problem's, and they have passed the problem's own checks: an
 // operation on a file goes on with them.
 pub fn read_numbers(bytes: &[u8], numbers: &mut [u64; 1446]) -> Verdict
+    requires { ⌜ now numbers ≡ replicate numberCount 0 ⌝ }
     ensures { λ r. ⌜ NumbersRead (now (bytes .entry)) (now (numbers .exit)) r ⌝ }
 {
-    *numbers = [0u64; 1446];
     let fields = scan::read_fields(bytes, numbers);
     let Fields::Done(end) = fields else {
         return Verdict::Refused(refusal_in(fields));
