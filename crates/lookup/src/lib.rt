@@ -2,7 +2,7 @@
 use model::Bytes;
 use model::Cycles;
 ghost use mathlib.Core.Path.{_≡_};
-ghost use Prim.Native.Nat.{ℕ, _<_};
+ghost use Prim.Native.Nat.{_<_};
 ghost use Rattle.model.specs.Numbers.{problemOf};
 ghost use Rattle.model.specs.Operations.{Checked};
 ghost use Rattle.model.specs.Costs.{sizeOf, loadCost, functionOf, ownCost};

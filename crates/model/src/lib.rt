@@ -1,6 +1,5 @@
 // The problem of document 01 and what the operations answer. What they mean is in specs/.
 ghost use mathlib.Core.Path.{_≡_};
-ghost use Prim.Native.Nat.{ℕ, _+_, _≤_, _<_};
 ghost use Rattle.model.specs.Refusals.{number, place, refusalIn};
 
 // Sizes count bytes, costs count cycles; no sum takes one of each.

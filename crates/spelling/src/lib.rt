@@ -1,7 +1,7 @@
 // One number of the problem file, read and written.
 use model::Number;
 ghost use mathlib.Core.Path.{_≡_};
-ghost use Prim.Native.Nat.{ℕ, _+_, _≤_, _<_};
+ghost use Prim.Native.Nat.{_+_, _≤_, _<_};
 ghost use lib.ListN.{length};
 ghost use lib.Seq.{sets};
 ghost use Rattle.model.specs.Spelling.{highFifth, zeroLast, readNumber, numberSize, numberBytes};

@@ -46,7 +46,7 @@ use Rattle.model.proofs.Loop as T
 use Rattle.graph.specs.Lent.{lowestUpTo}
 use Rattle.graph.proofs.Found.{lowest-more, lowest-first}
 use Rattle.graph.proofs.Lent as lent
-use Rattle.graph.proofs.Lent.{word, slice, tells, passes, counts}
+use Rattle.graph.proofs.Lent.{word, slice, tells, counts}
 use Rattle.graph.proofs.Readers.{Head, Tail, reads-header, reads-last}
 use Rattle.graph.proofs.header_at.Symbol as head-def
 use Rattle.graph.proofs.header_at.Symbol.{name as #head}

@@ -48,7 +48,7 @@ use Rattle.graph.specs.Words.{markLoop, marksOf}
 use Rattle.graph.specs.Lent.{Ranged}
 use Rattle.graph.proofs.Words.{marks-none, marks-more}
 use Rattle.graph.proofs.Lent as lent
-use Rattle.graph.proofs.Lent.{word, slice, table, Marks, marks-val, Good, zeros-val, zeros-good, marks-typed, marks-make, marks, passes, counts}
+use Rattle.graph.proofs.Lent.{word, slice, table, Marks, marks-val, Good, zeros-val, zeros-good, marks-typed, marks-make, marks, counts}
 use Rattle.graph.proofs.Readers.{Head, Tail, reads-header, reads-last}
 use Rattle.graph.proofs.header_at.Symbol as head-def
 use Rattle.graph.proofs.header_at.Symbol.{name as #head}
