@@ -1,4 +1,4 @@
-.PHONY: test run staticlib compare bench samples header
+.PHONY: test run staticlib program compare bench samples header
 
 # The gate.
 test:
@@ -18,8 +18,12 @@ run:
 staticlib:
 	rt staticlib examiner
 
-# The library held to the independent implementation. CASES=10 tries ten times as many cases.
-compare: staticlib header
+# The program marksheet, proved and built: target/bin/marksheet
+program:
+	rt check marksheet
+
+# The library held to the independent implementation, and the program run as its users do. CASES=10 tries ten times as many cases.
+compare: staticlib program header
 	cargo test --workspace
 
 # The library's speed against the independent implementation's.
