@@ -65,6 +65,13 @@ pub fn loop_last(l: &[u64; 1446], i: usize) -> usize
     l[1351 + 3 * i] as usize
 }
 
+pub fn loop_bound(l: &[u64; 1446], i: usize) -> u64
+    requires { ⌜ Counted (now l) ⌝ ∗ ⌜ i < length (loopsIn (now l)) ⌝ }
+    ensures { λ r. ⌜ r ≡ loop (loopsIn (now (l .entry))) i .bound ⌝ }
+{
+    l[1352 + 3 * i]
+}
+
 // Whether the range from header to last holds v.
 pub fn range_holds(header: usize, last: usize, v: usize) -> bool
     ensures { λ r. ⌜ r ≡ holds (rangeOf header last) v ⌝ }

@@ -50,13 +50,6 @@ fn larger(a: Cycles, b: Cycles) -> Cycles
     if a.0 < b.0 { b } else { a }
 }
 
-fn loop_bound(l: &[u64; 1446], i: usize) -> u64
-    requires { ⌜ Checked (now l) ⌝ ∗ ⌜ i < length (loopsIn (now l)) ⌝ }
-    ensures { λ r. ⌜ r ≡ loop (loopsIn (now (l .entry))) i .bound ⌝ }
-{
-    l[1352 + 3 * i]
-}
-
 // The edges as chains by where they lead: place v has one more than the number of the last edge to v, and place 128 + i one more than that of the
 // last edge before edge i to the same vertex. 0 ends a chain.
 fn edge_chains(l: &[u64; 1446]) -> [usize; 640]
@@ -110,7 +103,7 @@ fn stay_in(l: &[u64; 1446], i: usize, entry: Cycles, turn: Cycles) -> Cycles
     requires { ⌜ Checked (now l) ⌝ ∗ ⌜ i < length (loopsIn (now l)) ⌝ ∗ ⌜ entry .0 ≤ cap ⌝ }
     ensures { λ r. ⌜ r .0 ≡ min cap (entry .0 + (loop (loopsIn (now (l .entry))) i .bound - 1) * turn .0) ⌝ }
 {
-    let turns = capped_product(loop_bound(l, i) - 1, turn);
+    let turns = capped_product(graph::loop_bound(l, i) - 1, turn);
     capped_sum(entry, turns)
 }
 

@@ -1,5 +1,5 @@
 -- The table of the bounds: a loop after a loop is entered in it at its header, which no other loop has.
-use Prim.Native.Nat.{ℕ, _+_, _*_, _≤_, _<_}
+use Prim.Native.Nat.{ℕ, _+_, _≤_, _<_}
 use mathlib.Core.Path.{_≡_, sym, ap, _∙_}
 use mathlib.Core.List.{List}
 use native.Mathlib.Omega.{arith}
@@ -43,11 +43,12 @@ module _ (l : List ℕ) (checked : Checked l) where
   few-loops = omega (arith, loop-count l (counted l (checked .need) (checked .fields)), facts l checked .loops)
 
   module _ (i header : ℕ) (below : i < length (loopsOf (problemOf l))) (is : header ≡ loop (loopsOf (problemOf l)) i .header) where
-    mine : loop (loopsOf (problemOf l)) i .bound ≡ getD l (1352 + 3 * i) 0
-    mine = ap (λ (o : Loop). o .bound) (loop-at l (counted l (checked .need) (checked .fields)) i below)
-
-    listed : i < getD l 1349 0
-    listed = omega (arith, loop-count l (counted l (checked .need) (checked .fields)))
+    in-bounds : (1 ≤ loop (loopsOf (problemOf l)) i .bound) × (loop (loopsOf (problemOf l)) i .bound ≤ 65535)
+    in-bounds =
+        let all = counted l (checked .need) (checked .fields) in
+        let place = ap (λ (o : Loop). o .bound) (loop-at l all i below) in
+        let listed : i < getD l 1349 0 = omega (arith, loop-count l all) in
+        (omega (arith, place, facts l checked .bound-low i listed), omega (arith, place, facts l checked .bound-high i listed))
 
     pub header-inside : header < 128
     header-inside =
@@ -61,19 +62,19 @@ module _ (l : List ℕ) (checked : Checked l) where
         ap (λ (o : Loop). o .bound)
         (unique (checked-ranges l checked .ascend) (mem-getD (loopsOf (problemOf l)) i zeroLoop below) (mem-getD (loopsOf (problemOf l)) k zeroLoop h) (sym is ∙ sym e))
 
-    module _ (t : List ℕ) (m : Entered (problemOf l) i t) where
+    module _ (bound : ℕ) (mine : bound ≡ loop (loopsOf (problemOf l)) i .bound) (t : List ℕ) (m : Entered (problemOf l) i t) where
       abbrev after : List ℕ
-      after = set t header (getD l (1352 + 3 * i) 0)
+      after = set t header bound
 
       here : (v : ℕ) → v ≡ header → getD after v 0 ≡ loop (loopsOf (problemOf l)) i .bound
-      here v e = rw e (getD-set-same t header _ 0 (omega (arith, m .long, header-inside)) ∙ sym mine)
+      here v e = rw e (getD-set-same t header _ 0 (omega (arith, m .long, header-inside)) ∙ mine)
 
       -- What holds of this loop's bound and of every other place holds of the new table.
       everywhere : (P : ℕ → Type 0) → P (loop (loopsOf (problemOf l)) i .bound) → ((v : ℕ) → v < 128 → P (getD t v 0)) → (v : ℕ) → v < 128 → P (getD after v 0)
       everywhere P a b v h =
           by-bool (eqb v header)
           (λ e. rw (here v (eqb-true v header e)) a)
-          (λ e. rw (getD-set-other t header v (getD l (1352 + 3 * i) 0) 0 (eqb-false v header e)) (b v h))
+          (λ e. rw (getD-set-other t header v bound 0 (eqb-false v header e)) (b v h))
 
       pub loop-entered : Entered (problemOf l) (i + 1) after
       loop-entered =
@@ -87,8 +88,8 @@ module _ (l : List ℕ) (checked : Checked l) where
                 ∙ m .own k (by-bool (eqb k i)
                 (λ q. absurd (eqb-false _ header e (ap (λ (j : ℕ). loop (loopsOf (problemOf l)) j .header) (eqb-true k i q) ∙ sym is)))
                 (λ q. omega (arith, eqb-false k i q))));
-            low = everywhere (λ (x : ℕ). 1 ≤ x) (omega (arith, mine, facts l checked .bound-low i listed)) (m .low);
-            high = everywhere (λ (x : ℕ). x ≤ 65535) (omega (arith, mine, facts l checked .bound-high i listed)) (m .high);
+            low = everywhere (λ (x : ℕ). 1 ≤ x) (in-bounds .0) (m .low);
+            high = everywhere (λ (x : ℕ). x ≤ 65535) (in-bounds .1) (m .high);
           }
 
 pub all-entered : (p : Problem) (i : ℕ) (t : List ℕ) → length (loopsOf p) ≤ i → Entered p i t → Bounds p t

@@ -66,7 +66,7 @@ fn bound_table(l: &[u64; 1446]) -> [u64; 128]
     let mut i: usize = 0;
     while i < count {
         let header = graph::loop_header(l, i);
-        table[header] = l[1352 + 3 * i];
+        table[header] = graph::loop_bound(l, i);
         i += 1;
     }
     table

@@ -3,7 +3,7 @@ use Prim.Native.Nat.{ℕ, _+_, _-_, _*_, min}
 use mathlib.Core.Path.{_≡_}
 use native.Mathlib.Omega.{arith}
 use Rattle.longest.specs.Tables.{cap}
-use Rattle.longest.proofs.Checks.{bound-low}
+use Rattle.longest.proofs.Checks.{counted, bound-low}
 use borrow.Author.Needs.{needs}
 use Rattle.longest.proofs.stay_in.Statement.{statement}
 use Rattle.longest.proofs.stay_in.Tie as tie
@@ -12,7 +12,7 @@ added : (turn entry : ℕ) {bound at turns r : ℕ} → at ≡ bound → turns �
 added turn entry {bound} {turns = turns} is product total = let p : turns ≡ min cap ((bound - 1) * turn) = rw is at product in omega arith
 
 loop-bound-requires : tie.Need-loop-bound-requires
-loop-bound-requires c κs = search needs
+loop-bound-requires c κs = (counted (c .pre .0), c .pre .1 .0)
 
 sub-capped-product : tie.Need-sub-capped-product
 sub-capped-product c = omega (arith, c .loop-bound .ensures, bound-low (c .before .pre .0) _ (c .before .pre .1 .0))

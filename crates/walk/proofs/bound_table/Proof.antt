@@ -23,23 +23,14 @@ loop-holds c = (omega (arith, few-loops _ (c .before .pre)), none-entered _)
 loop-header-requires : tie.Need-loop-header-requires Inv-loop μ-loop
 loop-header-requires c κs = (counted _ _ (c .before .before .before .pre .fields), search needs)
 
-mul-table : tie.Need-mul-table Inv-loop μ-loop
-mul-table c = search needs
-
-add-table : tie.Need-add-table Inv-loop μ-loop
-add-table c = search needs
-
-mul-table-2 : tie.Need-mul-table-2 Inv-loop μ-loop
-mul-table-2 c = search needs
-
-element-copy-out-table : tie.Need-element-copy-out-table Inv-loop μ-loop
-element-copy-out-table c = search needs
+loop-bound-requires : tie.Need-loop-bound-requires Inv-loop μ-loop
+loop-bound-requires c κs = (counted _ _ (c .before .before .before .before .pre .fields), search needs)
 
 inside : (c : tie.After-loop-header Inv-loop μ-loop) → c .loop-header .result < 128
 inside c = header-inside _ (c .before .before .before .before .pre) (c .before .before .loop .i) _ (omega arith) (c .loop-header .ensures)
 
-mul-table-3 : tie.Need-mul-table-3 Inv-loop μ-loop
-mul-table-3 c = omega (arith, inside (c .before))
+mul-table : tie.Need-mul-table Inv-loop μ-loop
+mul-table c = omega (arith, inside (c .before))
 
 array-write-table : tie.Need-array-write-table Inv-loop μ-loop
 array-write-table c = inside (c .before)
@@ -51,7 +42,8 @@ loop-less : tie.Need-loop-less Inv-loop μ-loop
 loop-less c = search needs
 
 loop-again : tie.Need-loop-again Inv-loop μ-loop
-loop-again c = (search needs, loop-entered _ (c .before .before .before .before .before .pre) _ _ (omega arith) (c .before .loop-header .ensures) _ (c .before .before .before .loop .inv .1))
+loop-again c =
+    (search needs, loop-entered _ (c .before .before .before .before .before .pre) _ _ (omega arith) (c .before .loop-header .ensures) _ (c .loop-bound .ensures) _ (c .before .before .before .loop .inv .1))
 
 returns : tie.Need-returns Inv-loop μ-loop
 returns c = all-entered _ _ _ (omega arith) (c .before .loop .inv .1)
@@ -65,11 +57,8 @@ bound-table-spec =
     loop-count-requires
     loop-holds
     loop-header-requires
+    loop-bound-requires
     mul-table
-    add-table
-    mul-table-2
-    element-copy-out-table
-    mul-table-3
     array-write-table
     add-i
     loop-less
