@@ -18,7 +18,8 @@ use Rattle.sound.proofs.Sound.{cycles-covered}
 use Rattle.interference.specs.Flows.{FreshTable}
 use Rattle.latest.specs.Rivals.{RivalTable}
 use Rattle.latest.specs.Flow.{LatestTable}
-use Rattle.charges.specs.Tests.{bitTest, contestedBy, flagged, Tallied, Charged, ColdWord, LoadedFirst}
+use Rattle.bits.specs.Tests.{has}
+use Rattle.charges.specs.Tests.{contestedBy, flagged, Tallied, Charged, ColdWord, LoadedFirst}
 use Rattle.charges.proofs.Marks.{charged-marked}
 use Rattle.charges.proofs.Told.{walk-function, charges-table, told-by-tables}
 use Rattle.longest.specs.Tables.{cap}
@@ -27,14 +28,14 @@ module _ (l : List ℕ) (ok : Checked l) (layout rivals held fresh flags charge 
     (is-rivals : RivalTable (problemOf l) layout rivals) (is-held : LatestTable (problemOf l) rivals held) (is-fresh : FreshTable (problemOf l) fresh)
     (tallied : Tallied (problemOf l .«vertex_count») (contestedBy (problemOf l) rivals held) flags tally)
     (charged : Charged (problemOf l) (flagged flags) charge)
-    (is-cold : ColdWord (problemOf l) flags fresh coldest) (loaded : LoadedFirst (problemOf l) (bitTest coldest) (first .0))
+    (is-cold : ColdWord (problemOf l) flags fresh coldest) (loaded : LoadedFirst (problemOf l) (has coldest) (first .0))
     (exact : greatest .0 < cap → Greatest (problemOf l) (charges (λ v. getD charge v 0)) (greatest .0))
     (high : cap ≤ greatest .0 → (h : List ℕ) × Lawful (problemOf l) h × (cap ≤ charges (λ v. getD charge v 0) (lastVertex (problemOf l) ∷ h))) where
   abbrev contested : ℕ → Bool
   contested = contestedBy (problemOf l) rivals held
 
   abbrev cold : ℕ → Bool
-  cold = bitTest coldest
+  cold = has coldest
 
   abbrev visits : List ℕ → ℕ
   visits = charges (visitCharge (problemOf l) contested)

@@ -12,6 +12,7 @@ use Rattle.model.specs.declared.Problem.{Problem}
 use Rattle.model.specs.Costs.{functionOf}
 use Rattle.model.specs.Results.{Member}
 use Rattle.model.proofs.Cases.{by-bool, true-not-false}
+use Rattle.bits.specs.Tests.{has}
 use Rattle.bits.proofs.Bits.{none-in-zero, or-left, or-right, or-only, pow-member, pow-only}
 use Rattle.latest.proofs.Bits.{and-members}
 use Rattle.charges.specs.Tests.{flagged, EarlyAt, ColdBelow, ColdWord}
@@ -24,7 +25,7 @@ module _ (p : Problem) (flags fresh : List ℕ) where
     not-free flag f = (λ m. absurd (none-in-zero f m), λ early. true-not-false (sym (eq-eqb (getD flags v 0) 1 flag) ∙ early .free))
 
     pub as-fresh : {g : ℕ} → (getD flags v 0 ≡ 1 → ⊥) → g ≡ functionOf p v → (f : ℕ) → Member (bitAnd (getD fresh v 0) (2 ^ g)) f ↔ EarlyAt p flags fresh f v
-    unfolding flagged
+    unfolding flagged has
     as-fresh {g} unmarked of-v f = (
       λ m.
           let (first, only) = and-members (getD fresh v 0) (2 ^ g) f .0 m in

@@ -30,11 +30,13 @@ use Rattle.latest.specs.Rivals.{RivalTable}
 use Rattle.latest.specs.Flow.{LatestTable}
 use Rattle.latest.proofs.Bits.{common}
 use Rattle.latest.proofs.Flow.{held-known}
-use Rattle.charges.specs.Tests.{bitTest, freshTest, sharedTest, contestedBy, Marked, ColdWord, Charged}
+use Rattle.bits.specs.Tests.{has}
+use Rattle.charges.specs.Tests.{freshTest, sharedTest, contestedBy, Marked, ColdWord, Charged}
 use Rattle.charges.proofs.Marks.{marked-flag}
 
 -- A bit's test, for what its being set says.
-told-by-bit : (word g : ℕ) {P : Type 0} → Member word g ↔ P → (bitTest word g ≡ true) ↔ P
+told-by-bit : (word g : ℕ) {P : Type 0} → Member word g ↔ P → (has word g ≡ true) ↔ P
+unfolding has
 told-by-bit word g iff = (λ e. iff .0 (eqb-true (word / 2 ^ g % 2) 1 e), λ x. eq-eqb (word / 2 ^ g % 2) 1 (iff .1 x))
 
 module _ {l : List ℕ} (checked : Checked l) where
@@ -101,17 +103,17 @@ module _ {l : List ℕ} (checked : Checked l) where
             )),
       )
 
-    early : (f : ℕ) → (bitTest cold f ≡ true) ↔ EarlyVertex (problemOf l) (sharedTest rivals latest (problemOf l)) (freshTest fresh (problemOf l)) f
+    early : (f : ℕ) → (has cold f ≡ true) ↔ EarlyVertex (problemOf l) (sharedTest rivals latest (problemOf l)) (freshTest fresh (problemOf l)) f
     unfolding contestedBy
     early f = told-by-bit cold f (
       λ m. let (v, below, is) = is-cold .member f .0 m in (v, below, is .of, sym (marked-flag marked v below) ∙ is .free, is .first),
       λ (v, below, of-f, free, first). is-cold .member f .1 (v, below, record { of = of-f; free = marked-flag marked v below ∙ free; first = first }),
     )
 
-    pub told-by-tables : Told (problemOf l) layout (contestedBy (problemOf l) rivals latest) (bitTest cold)
+    pub told-by-tables : Told (problemOf l) layout (contestedBy (problemOf l) rivals latest) (has cold)
     unfolding contestedBy
     told-by-tables =
-        told (problemOf l) layout (sharedTest rivals latest (problemOf l)) (freshTest fresh (problemOf l)) (bitTest cold)
+        told (problemOf l) layout (sharedTest rivals latest (problemOf l)) (freshTest fresh (problemOf l)) (has cold)
         (record {
           vertex = λ v h walk. walk-below walk;
           contested = shared;

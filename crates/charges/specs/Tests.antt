@@ -1,6 +1,6 @@
 -- Contested and cold, told by words: word f of `rivals` has the other functions of the region of f, word v of `latest` the functions that a walk to v may
 -- find held, word v of `fresh` those that it need not have visited. Flags keep a test's answers, 1 where it passes.
-use Prim.Native.Nat.{ℕ, _*_, _/_, _%_, _^_, _≤_, _<_}
+use Prim.Native.Nat.{ℕ, _*_, _≤_, _<_}
 use mathlib.Core.Path.{_≡_}
 use mathlib.Core.List.{List}
 use mathlib.Core.Bool.{Bool, true, false, cond}
@@ -12,15 +12,12 @@ use Rattle.model.specs.declared.Problem.{Problem}
 use Rattle.model.specs.Costs.{functionOf, loadCost, howMany}
 use Rattle.model.specs.Charges.{visitCharge, firstLoads}
 use Rattle.model.specs.Results.{Member}
+use Rattle.bits.specs.Tests.{has}
 use Rattle.sound.specs.Decide.{contestedTest}
-
--- Bit g of a word is set.
-abbrev pub bitTest : ℕ → ℕ → Bool
-bitTest word g = eqb (word / 2 ^ g % 2) 1
 
 -- A walk comes to v with no earlier vertex of its function.
 abbrev pub freshTest : List ℕ → Problem → ℕ → Bool
-freshTest ws p v = bitTest (getD ws v 0) (functionOf p v)
+freshTest ws p v = has (getD ws v 0) (functionOf p v)
 
 -- A walk may come to v with a rival of its function held.
 abbrev pub sharedTest : List ℕ → List ℕ → Problem → ℕ → Bool

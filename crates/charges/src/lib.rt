@@ -9,11 +9,12 @@ ghost use Rattle.model.specs.Numbers.{problemOf};
 ghost use Rattle.model.specs.Operations.{Checked};
 ghost use Rattle.model.specs.Charges.{visitCharge};
 ghost use Rattle.model.specs.Results.{Member};
-ghost use Rattle.charges.specs.Tests.{bitTest, contestedBy, flagged, EarlyAt, ColdWord, chargeAt, firstLoad, Tallied, Charged, LoadedFirst};
+ghost use Rattle.bits.specs.Tests.{has};
+ghost use Rattle.charges.specs.Tests.{contestedBy, flagged, EarlyAt, ColdWord, chargeAt, firstLoad, Tallied, Charged, LoadedFirst};
 
 fn has_bit(word: u32, g: usize) -> bool
     requires { ⌜ g < 32 ⌝ }
-    ensures { λ r. ⌜ r ≡ bitTest word g ⌝ }
+    ensures { λ r. ⌜ r ≡ has word g ⌝ }
 {
     (word >> g) % 2 == 1
 }
@@ -131,7 +132,7 @@ pub fn cold_functions(l: &[u64; 1446], flags: &[u8; 128], fresh: &[u32; 128]) ->
 // What a function adds to the first loads: its load cost where it is cold.
 fn first_load(l: &[u64; 1446], cold: u32, f: usize) -> Cycles
     requires { ⌜ Checked (now l) ⌝ ∗ ⌜ f < problemOf (now l) .«function_count» ⌝ }
-    ensures { λ r. ⌜ r .0 ≡ firstLoad (problemOf (now (l .entry))) (bitTest cold) f ⌝ }
+    ensures { λ r. ⌜ r .0 ≡ firstLoad (problemOf (now (l .entry))) (has cold) f ⌝ }
 {
     if has_bit(cold, f) {
         return lookup::load_of(l, f);
@@ -142,7 +143,7 @@ fn first_load(l: &[u64; 1446], cold: u32, f: usize) -> Cycles
 // The load cost of each cold function once.
 pub fn first_loads(l: &[u64; 1446], cold: u32) -> Cycles
     requires { ⌜ Checked (now l) ⌝ }
-    ensures { λ r. ⌜ LoadedFirst (problemOf (now (l .entry))) (bitTest cold) (r .0) ⌝ }
+    ensures { λ r. ⌜ LoadedFirst (problemOf (now (l .entry))) (has cold) (r .0) ⌝ }
 {
     let count = lookup::function_count(l);
     let mut loads = Cycles(0);

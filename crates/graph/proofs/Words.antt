@@ -20,7 +20,7 @@ use Rattle.model.specs.Numbers.{table}
 use Rattle.bits.specs.Tests.{has}
 use Rattle.bits.proofs.Tests.{has-or, has-and, has-less, has-zero, has-pow}
 use Rattle.graph.specs.Plain.{edgeOf}
-use Rattle.graph.specs.Words.{gain, markLoop, marksOf, heldOver, aroundAt, Told, Headed, Around, wrongBy, returnedBy, Returned}
+use Rattle.graph.specs.Words.{gain, markLoop, marksOf, heldOver, aroundAt, BitsTell, Headed, Around, wrongBy, returnedBy, Returned}
 use Rattle.graph.specs.Lent.{Ranged}
 use Rattle.graph.proofs.Found.{exists-first, exists-more, exists-bit}
 
@@ -46,8 +46,8 @@ one-more test b i =
 -- The marks of the first i loops.
 record Ends (ls : List Loop) (i : ℕ) (marks : List ℕ) : Type 0 where
   long : length marks ≡ 256
-  first : Told i (λ b v. eqb (loop ls b .header) v) (λ v. getD marks v 0)
-  last : Told i (λ b v. eqb (loop ls b .last) v) (λ v. getD marks (128 + v) 0)
+  first : BitsTell i (λ b v. eqb (loop ls b .header) v) (λ v. getD marks v 0)
+  last : BitsTell i (λ b v. eqb (loop ls b .last) v) (λ v. getD marks (128 + v) 0)
 
 module _ (ls : List Loop) (ranged : Ranged ls) where
   no-ends : Ends ls 0 (marksOf ls 0)
@@ -72,7 +72,7 @@ module _ (ls : List Loop) (ranged : Ranged ls) where
     at-end : 128 + end < length (gain marks header i)
     at-end = omega (arith, length-set marks header (bitOr (getD marks header 0) (2 ^ i)), ends .long, ranged .last i here)
 
-    more-first : Told (suc i) (λ b v. eqb (loop ls b .header) v) (λ v. getD (markLoop marks header end i) v 0)
+    more-first : BitsTell (suc i) (λ b v. eqb (loop ls b .header) v) (λ v. getD (markLoop marks header end i) v 0)
     unfolding markLoop
     more-first v b h =
         gained (gain marks header i) (128 + end) i v b at-end
@@ -81,7 +81,7 @@ module _ (ls : List Loop) (ranged : Ranged ls) where
         ∙ (gained marks header i v b at-header
         ∙ (ap (λ (t : Bool). t || (eqb header v && eqb b i)) (ends .first v b h) ∙ one-more (λ k. eqb (loop ls k .header) v) b i))))
 
-    more-last : Told (suc i) (λ b v. eqb (loop ls b .last) v) (λ v. getD (markLoop marks header end i) (128 + v) 0)
+    more-last : BitsTell (suc i) (λ b v. eqb (loop ls b .last) v) (λ v. getD (markLoop marks header end i) (128 + v) 0)
     unfolding markLoop
     more-last v b h =
         gained (gain marks header i) (128 + end) i (128 + v) b at-end

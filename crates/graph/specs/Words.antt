@@ -34,14 +34,14 @@ abbrev pub aroundAt : List ℕ → ℕ → ℕ
 aroundAt marks v = bitOr (heldOver marks v) (getD marks v 0)
 
 -- Bit b of each of 128 words is a test of loop b, one of the first n.
-abbrev pub Told : ℕ → (ℕ → ℕ → Bool) → (ℕ → ℕ) → Type 0
-Told n test word = (v b : ℕ) → v < 128 → has (word v) b ≡ (ltb b n && test b v)
+abbrev pub BitsTell : ℕ → (ℕ → ℕ → Bool) → (ℕ → ℕ) → Type 0
+BitsTell n test word = (v b : ℕ) → v < 128 → has (word v) b ≡ (ltb b n && test b v)
 
 pub record Headed (ls : List Loop) (marks : List ℕ) : Type 0 where
-  pub told : Told (length ls) (λ b v. eqb (loop ls b .header) v) (λ v. getD marks v 0)
+  pub told : BitsTell (length ls) (λ b v. eqb (loop ls b .header) v) (λ v. getD marks v 0)
 
 pub record Around (ls : List Loop) (around : List ℕ) : Type 0 where
-  pub told : Told (length ls) (λ b v. holds (loop ls b) v) (λ v. getD around v 0)
+  pub told : BitsTell (length ls) (λ b v. holds (loop ls b) v) (λ v. getD around v 0)
 
 -- A wrong edge, told by the loops around its end and its start and those headed by its end.
 unfoldable pub wrongBy : ℕ → ℕ → ℕ → ℕ → ℕ → Bool

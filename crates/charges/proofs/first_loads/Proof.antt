@@ -7,14 +7,15 @@ use Rattle.model.specs.Numbers.{problemOf}
 use Rattle.model.specs.Costs.{total}
 use Rattle.model.specs.Charges.{firstLoads}
 use Rattle.layout.proofs.Sums.{Upto, turn, end, total-more}
-use Rattle.charges.specs.Tests.{bitTest, firstLoad}
+use Rattle.bits.specs.Tests.{has}
+use Rattle.charges.specs.Tests.{firstLoad}
 use Rattle.charges.proofs.Sizes.{loads-fit, loaded-first}
 use Rattle.charges.proofs.first_loads.Statement.{statement}
 use Rattle.charges.proofs.first_loads.Tie as tie
 
 abbrev Inv-loop : tie.InvT-loop
 Inv-loop l cold count loads₀ f₀ loads f =
-    Upto (λ n. total n (firstLoad (problemOf l) (bitTest cold))) (problemOf l .«function_count») f (loads .0)
+    Upto (λ n. total n (firstLoad (problemOf l) (has cold))) (problemOf l .«function_count») f (loads .0)
 
 abbrev μ-loop : tie.MeasureT-loop
 μ-loop l cold count loads₀ f₀ loads f = count - f
