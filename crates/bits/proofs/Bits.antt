@@ -25,6 +25,16 @@ pub bit-zero : (k : ℕ) → bit k 0 ≡ 0
 bit-zero zero = refl
 bit-zero (suc k) = bit-zero k
 
+-- What holds of 0 and 1 holds of numbers below 2.
+pub below-two : (P : ℕ → ℕ → Type 0) → P 0 0 → P 0 1 → P 1 0 → P 1 1 → (x y : ℕ) → x < 2 → y < 2 → P x y
+below-two P a b c d zero zero h g = a
+below-two P a b c d zero (suc zero) h g = b
+below-two P a b c d (suc zero) zero h g = c
+below-two P a b c d (suc zero) (suc zero) h g = d
+below-two P a b c d (suc (suc x)) y h g = absurd (omega arith)
+below-two P a b c d zero (suc (suc y)) h g = absurd (omega arith)
+below-two P a b c d (suc zero) (suc (suc y)) h g = absurd (omega arith)
+
 pub none-in-zero : (k : ℕ) → Member 0 k → ⊥
 none-in-zero k h = omega (arith, bit-is k 0, bit-zero k)
 
@@ -90,10 +100,6 @@ with-members w g b = (
 )
 
 -- a ^ b has the members of one that are not of the other.
-differ-zero : (x : ℕ) → differ x 0 ≡ x
-differ-zero zero = refl
-differ-zero (suc x) = refl
-
 differ-le : (x y : ℕ) → differ x y ≤ max x y
 differ-le zero y = omega arith
 differ-le (suc x) zero = omega arith
@@ -105,31 +111,39 @@ bit-xor (suc k) a b =
     let e : bitXor a b / 2 ≡ bitXor (a / 2) (b / 2) = omega (arith, xor-step a b, differ-le (a % 2) (b % 2)) in
     ap (bit k) e ∙ bit-xor k (a / 2) (b / 2)
 
+-- The members of w but those of r.
+module _ (w r k : ℕ) where
+  pub bit-less : bit k (bitXor (bitOr w r) r) ≡ differ (max (bit k w) (bit k r)) (bit k r)
+  bit-less = rw (bit-xor k (bitOr w r) r, bit-or k w r)
+
+  pub less-members : Member (bitXor (bitOr w r) r) k ↔ ((Member r k → ⊥) × Member w k)
+  less-members =
+      rw (bit-is k (bitXor (bitOr w r) r), bit-is k r, bit-is k w, bit-less)
+      (below-two (λ x y. (differ (max x y) y ≡ 1) ↔ ((y ≡ 1 → ⊥) × (x ≡ 1)))
+      (λ e. absurd (omega arith), λ (ne, e). absurd (omega arith))
+      (λ e. absurd (omega arith), λ (ne, e). absurd (omega arith))
+      (λ e. (λ q. omega arith, refl), λ (ne, e). refl)
+      (λ e. absurd (omega arith), λ (ne, e). absurd (ne refl))
+      (bit k w) (bit k r) (bit-lt k w) (bit-lt k r))
+
 -- The members of w but g.
-module _ (w g b : ℕ) where
-  left-out : bit g (bitXor (bitOr w (2 ^ g)) (2 ^ g)) ≡ 0
-  left-out =
-      let e : max (bit g w) (bit g (2 ^ g)) ≡ 1 = omega (arith, bit-pow g, bit-lt g w) in
-      bit-xor g (bitOr w (2 ^ g)) (2 ^ g) ∙ rw (bit-or g w (2 ^ g), e, bit-pow g)
+pub without-members : (w g b : ℕ) → Member (bitXor (bitOr w (2 ^ g)) (2 ^ g)) b ↔ ((g ≡ b → ⊥) × Member w b)
+without-members w g b = (
+  λ h. let (other, m) = less-members w (2 ^ g) b .0 h in (λ e. other (rw (sym e) (pow-member g)), m),
+  λ (ne, m). less-members w (2 ^ g) b .1 (λ p. ne (sym (pow-only g b p)), m),
+)
 
-  others : (g ≡ b → ⊥) → bit b (bitXor (bitOr w (2 ^ g)) (2 ^ g)) ≡ bit b w
-  others ne =
-      let z : bit b (2 ^ g) ≡ 0 = zero-bit (bit b (2 ^ g)) refl in
-      let e : max (bit b w) 0 ≡ bit b w = omega arith in
-      bit-xor b (bitOr w (2 ^ g)) (2 ^ g) ∙ rw (bit-or b w (2 ^ g), z, e) (differ-zero (bit b w))
-    where
-      zero-bit : (x : ℕ) → bit b (2 ^ g) ≡ x → bit b (2 ^ g) ≡ 0
-      zero-bit zero e = e
-      zero-bit (suc x) e = absurd (ne (sym (bit-pow-only b g (omega (arith, bit-lt b (2 ^ g))))))
+-- A word other than 0 has a bit.
+some-bit-below : (n w : ℕ) → w ≤ n → (w ≡ 0 → ⊥) → (k : ℕ) × (bit k w ≡ 1)
+some-bit-below zero w le ne = absurd (ne (omega arith))
+some-bit-below (suc n) w le ne = at (w % 2) refl (some-bit-below n (w / 2))
+  where
+    at : (b : ℕ) → w % 2 ≡ b → (w / 2 ≤ n → (w / 2 ≡ 0 → ⊥) → (k : ℕ) × (bit k (w / 2) ≡ 1)) → (k : ℕ) × (bit k w ≡ 1)
+    at zero even rest = let (k, m) = rest (omega arith) (λ z. ne (omega arith)) in (suc k, m)
+    at (suc b) odd rest = (0, omega arith)
 
-  pub without-members : Member (bitXor (bitOr w (2 ^ g)) (2 ^ g)) b ↔ ((g ≡ b → ⊥) × Member w b)
-  without-members = (λ h. (gone h, stays h (gone h)), λ h. bit-is b _ ∙ others (h .0) ∙ sym (bit-is b w) ∙ h .1)
-    where
-      gone : Member (bitXor (bitOr w (2 ^ g)) (2 ^ g)) b → g ≡ b → ⊥
-      gone h e = let z : bit b (bitXor (bitOr w (2 ^ g)) (2 ^ g)) ≡ 0 = ap (λ (x : ℕ). bit x (bitXor (bitOr w (2 ^ g)) (2 ^ g))) (sym e) ∙ left-out in omega (arith, bit-is b (bitXor (bitOr w (2 ^ g)) (2 ^ g)), h)
-
-      stays : Member (bitXor (bitOr w (2 ^ g)) (2 ^ g)) b → (g ≡ b → ⊥) → Member w b
-      stays h ne = bit-is b w ∙ sym (others ne) ∙ sym (bit-is b _) ∙ h
+pub bit-of : (w : ℕ) → (w ≡ 0 → ⊥) → (k : ℕ) × (bit k w ≡ 1)
+bit-of w ne = some-bit-below w w (omega arith) ne
 
 -- The word of all ones, shifted down so far that n ones are left.
 bit-ones : (n k : ℕ) → k < n → bit k (2 ^ n - 1) ≡ 1

@@ -1,2 +1,4 @@
 pub mod Bits
 pub mod Tests
+pub mod Members
+pub mod Steps

@@ -1,6 +1,6 @@
--- Bound's contract decides its answer: no two answers meet it for one problem and one layout.
+-- Bound's contract decides its answer: no two answers meet it for one problem and one layout, and a bound is the answer just where the layout is accepted.
 use Prim.Native.Nat.{ℕ}
-use mathlib.Core.Path.{_≡_, sym, ap, _∙_, subst}
+use mathlib.Core.Path.{_≡_, refl, sym, ap, _∙_, subst}
 use mathlib.Core.List.{List, _∷_}
 use mathlib.Core.Bool.{Bool, true}
 use mathlib.Core.Logic.{inl, inr}
@@ -13,7 +13,7 @@ use Rattle.model.specs.declared.BoundAnswer.the-variants.{Bounded, Refused}
 use Rattle.model.specs.Costs.{howMany}
 use Rattle.model.specs.Walks.{lastVertex, Greatest}
 use Rattle.model.specs.Charges.{Told, visitCharge, firstLoads, charges}
-use Rattle.model.specs.Results.{BoundIs, PastTheLimit, BoundSays}
+use Rattle.model.specs.Results.{BoundIs, PastTheLimit, AcceptedWith, BoundSays}
 use Rattle.model.proofs.Answers.{refused-not-accepted}
 use Rattle.model.proofs.Cases.{by-bool, true-not-false}
 
@@ -87,3 +87,12 @@ module _ (p : Problem) (layout : List ℕ) where
   bound-decided (Refused f) (Refused g) (inl a) (inr b) = refused-not-accepted (sym a ∙ b .0)
   bound-decided (Refused f) (Refused g) (inr a) (inl b) = refused-not-accepted (sym b ∙ a .0)
   bound-decided (Refused f) (Refused g) (inr a) (inr b) = ap Refused (a .1 ∙ sym (b .1))
+
+  -- A bound is given only for a layout that is accepted with the problem, and for each that is.
+  pub bounded-accepted : (b : Bound) → BoundSays p layout (Bounded b) → AcceptedWith p layout
+  bounded-accepted b says = (says .0, bounded-or-past b (says .1))
+
+  pub accepted-bounded : (a : BoundAnswer) → BoundSays p layout a → AcceptedWith p layout → (b : Bound) × (a ≡ Bounded b)
+  accepted-bounded (Bounded b) says accepted = (b, refl)
+  accepted-bounded (Refused f) (inl refused) accepted = refused-not-accepted (sym refused ∙ accepted .0)
+  accepted-bounded (Refused f) (inr says) accepted = absurd (accepted .1 (says .2))

@@ -4,7 +4,6 @@ use mathlib.Core.Path.{_≡_, sym, _∙_, ap}
 use mathlib.Core.List.{List, _∷_}
 use mathlib.Core.Bool.{Bool}
 use native.Mathlib.Omega.{arith}
-use lib.ListN.{getD}
 use Rattle.model.specs.declared.Bytes.{Bytes}
 use Rattle.model.specs.declared.Cycles.{Cycles}
 use Rattle.model.specs.Numbers.{problemOf}
@@ -15,63 +14,83 @@ use Rattle.model.specs.Charges.{Told, visitCharge, firstLoads, charges}
 use Rattle.model.specs.Results.{boundLimit, BoundIs, PastTheLimit}
 use Rattle.model.proofs.Cases.{by-order}
 use Rattle.sound.proofs.Sound.{cycles-covered}
-use Rattle.interference.specs.Flows.{FreshTable}
-use Rattle.latest.specs.Rivals.{RivalTable}
-use Rattle.latest.specs.Flow.{LatestTable}
+use Rattle.reach.specs.Fresh.{FreshTable}
+use Rattle.held.specs.Rivals.{RivalTable}
+use Rattle.held.specs.Flow.{HeldTable}
 use Rattle.bits.specs.Tests.{has}
 use Rattle.charges.specs.Tests.{contestedBy, flagged, Tallied, Charged, ColdWord, LoadedFirst}
-use Rattle.charges.proofs.Marks.{charged-marked}
+use Rattle.charges.proofs.Flags.{charged-told}
 use Rattle.charges.proofs.Told.{walk-function, charges-table, told-by-tables}
-use Rattle.longest.specs.Tables.{cap}
+use Rattle.stays.specs.Tables.{cap, byVertex}
+use Rattle.iterations.specs.Greatest.{GreatestCapped}
 
-module _ (l : List ℕ) (ok : Checked l) (layout rivals held fresh flags charge : List ℕ) (tally coldest : ℕ) (first greatest : Cycles)
-    (is-rivals : RivalTable (problemOf l) layout rivals) (is-held : LatestTable (problemOf l) rivals held) (is-fresh : FreshTable (problemOf l) fresh)
-    (tallied : Tallied (problemOf l .«vertex_count») (contestedBy (problemOf l) rivals held) flags tally)
-    (charged : Charged (problemOf l) (flagged flags) charge)
-    (is-cold : ColdWord (problemOf l) flags fresh coldest) (loaded : LoadedFirst (problemOf l) (has coldest) (first .0))
-    (exact : greatest .0 < cap → Greatest (problemOf l) (charges (λ v. getD charge v 0)) (greatest .0))
-    (high : cap ≤ greatest .0 → (h : List ℕ) × Lawful (problemOf l) h × (cap ≤ charges (λ v. getD charge v 0) (lastVertex (problemOf l) ∷ h))) where
+-- The tables that pricing fills, and the numbers that it finds by them.
+pub record Computed (l layout : List ℕ) (tally : ℕ) (first greatest : Cycles) : Type 0 where
+  pub checked : Checked l
+  pub rivals : List ℕ
+  pub held : List ℕ
+  pub fresh : List ℕ
+  pub flags : List ℕ
+  pub charge : List ℕ
+  pub coldest : ℕ
+  pub is-rivals : RivalTable (problemOf l) layout rivals
+  pub is-held : HeldTable (problemOf l) rivals held
+  pub is-fresh : FreshTable (problemOf l) fresh
+  pub tallied : Tallied (problemOf l .«vertex_count») (contestedBy (problemOf l) rivals held) flags tally
+  pub charged : Charged (problemOf l) (flagged flags) charge
+  pub is-cold : ColdWord (problemOf l) flags fresh coldest
+  pub loaded : LoadedFirst (problemOf l) (has coldest) (first .0)
+  pub greatest-is : GreatestCapped (problemOf l) (byVertex charge) (greatest .0)
+
+module _ {l layout : List ℕ} {tally : ℕ} {first greatest : Cycles} (found : Computed l layout tally first greatest) where
   abbrev contested : ℕ → Bool
-  contested = contestedBy (problemOf l) rivals held
+  contested = contestedBy (problemOf l) (found .rivals) (found .held)
 
   abbrev cold : ℕ → Bool
-  cold = has coldest
+  cold = has (found .coldest)
 
   abbrev visits : List ℕ → ℕ
   visits = charges (visitCharge (problemOf l) contested)
 
   told : Told (problemOf l) layout contested cold
-  told = told-by-tables ok layout rivals held fresh flags coldest is-rivals is-held is-fresh (tallied .marked) is-cold
+  told =
+      told-by-tables (found .checked) layout _ _ _ _ _ (found .is-rivals) (found .is-held) (found .is-fresh) (found .tallied .told) (found .is-cold)
 
-  same : (h : List ℕ) → Lawful (problemOf l) h → charges (λ v. getD charge v 0) (lastVertex (problemOf l) ∷ h) ≡ visits (lastVertex (problemOf l) ∷ h)
-  same h lawful = charges-table ok (charged-marked (problemOf l) (tallied .marked) charged) (lawful .walk)
+  same : (h : List ℕ) → Lawful (problemOf l) h → charges (byVertex (found .charge)) (lastVertex (problemOf l) ∷ h) ≡ visits (lastVertex (problemOf l) ∷ h)
+  unfolding byVertex
+  same h lawful = charges-table (found .checked) (charged-told (problemOf l) (found .tallied .told) (found .charged)) (lawful .walk)
 
-  greatest-is : greatest .0 < cap → Greatest (problemOf l) visits (greatest .0)
-  greatest-is low =
-      let g = exact low in
+  exact : greatest .0 < cap → Greatest (problemOf l) visits (greatest .0)
+  exact low =
+      let g = found .greatest-is .below low in
       record {
         above = λ h lawful. omega (arith, g .above h lawful, same h lawful);
         reached = let (h, lawful, is) = g .reached in (h, lawful, sym (same h lawful) ∙ is);
       }
 
-  module _ (bound : Cycles) (sum : bound .0 ≡ greatest .0 + first .0) where
-    pub priced : bound .0 ≤ boundLimit → (need : Bytes) → need .0 ≡ needOf (problemOf l) layout →
+  module _ {bound : Cycles} (sum : bound .0 ≡ greatest .0 + first .0) where
+    pub priced : bound .0 ≤ boundLimit → {need : Bytes} → need .0 ≡ needOf (problemOf l) layout →
         BoundIs (problemOf l) layout (record { need = need; contested = tally; first = first; bound = bound })
-    priced within need need-is =
-        let g = greatest-is (omega arith) in
+    priced within need-is =
+        let g = exact (omega arith) in
+        let loads = found .loaded .loads-are in
         record {
           contested = contested;
           cold = cold;
           told = told;
           need-is = need-is;
-          contested-are = tallied .tally-is;
-          first-is = loaded .loads-are;
+          contested-are = found .tallied .tally-is;
+          first-is = loads;
           greatest = greatest .0;
           greatest-is = g;
-          bound-is = sum ∙ ap (λ (x : ℕ). greatest .0 + x) (loaded .loads-are);
+          bound-is = sum ∙ ap (λ (x : ℕ). greatest .0 + x) loads;
           within-limit = within;
-          covers =
-              λ h lawful. omega (arith, g .above h lawful, loaded .loads-are, cycles-covered (problemOf l) layout contested cold told (λ v h walk. walk-function ok walk) (lawful .walk));
+          covers = λ h lawful.
+              omega (
+                arith,
+                g .above h lawful,
+                cycles-covered (problemOf l) layout contested cold told (λ v h walk. walk-function (found .checked) walk) (lawful .walk),
+              );
         }
 
     past-by : (h : List ℕ) → Lawful (problemOf l) h → boundLimit < visits (lastVertex (problemOf l) ∷ h) + firstLoads (problemOf l) cold → PastTheLimit (problemOf l) layout
@@ -79,6 +98,7 @@ module _ (l : List ℕ) (ok : Checked l) (layout rivals held fresh flags charge 
 
     pub past : boundLimit < bound .0 → PastTheLimit (problemOf l) layout
     past over =
+        let loads = found .loaded .loads-are in
         by-order (greatest .0) cap
-        (λ low. let (h, lawful, is) = greatest-is low .reached in past-by h lawful (omega (arith, loaded .loads-are)))
-        (λ reaches. let (h, lawful, most) = high reaches in past-by h lawful (omega (arith, same h lawful)))
+        (λ low. let (h, lawful, is) = exact low .reached in past-by h lawful (omega arith))
+        (λ reaches. let (h, lawful, most) = found .greatest-is .at reaches in past-by h lawful (omega (arith, same h lawful)))

@@ -3,40 +3,42 @@ use layout::LayoutAnswer;
 use model::Bound;
 use model::BoundAnswer;
 use model::Bytes;
-use model::Fields;
+use model::Numbers;
 use model::Problem;
 use model::Refusal;
+use model::Verdict;
+use model::limits;
+use model::places;
+use model::units;
 ghost use mathlib.Core.Path.{_≡_};
 ghost use Rattle.model.specs.Numbers.{problemOf};
 ghost use Rattle.model.specs.Layouts.{needOf};
 ghost use Rattle.model.specs.Operations.{Checked};
 ghost use Rattle.model.specs.Results.{BoundSays};
-ghost use Rattle.latest.specs.Rivals.{KnownRegions};
+ghost use Rattle.held.specs.Rivals.{KnownRegions};
 ghost use Rattle.bound.specs.Priced.{Priced};
 
-const LIMIT: u64 = 1_000_000_000_000_000_000;
-
 // What a layout that fits costs: the part of Bound after the checks.
-pub fn price(l: &[u64; 1446], layout: &[u8], need: Bytes) -> BoundAnswer
+pub fn price(l: &Numbers, layout: &[u8], need: Bytes) -> BoundAnswer
     requires { ⌜ Checked (now l) ⌝ ∗ ⌜ need .0 ≡ needOf (problemOf (now l)) (now layout) ⌝ ∗ ⌜ KnownRegions (problemOf (now l)) (now layout) ⌝ }
     ensures { λ r. ⌜ Priced (problemOf (now (l .entry))) (now (layout .entry)) r ⌝ }
 {
-    let mut rivals = [0u32; 32];
-    latest::rivals(l, layout, &mut rivals);
-    let mut held = [0u32; 128];
-    latest::latest(l, &rivals, &mut held);
-    let mut fresh = [0u32; 128];
-    interference::first_reach(l, &mut fresh);
-    let mut flags = [0u8; 128];
+    let mut rivals = [0u32; places::MOST_FUNCTIONS];
+    held::rivals(l, layout, &mut rivals);
+    let mut held = [0u32; places::MOST_VERTICES];
+    held::may_hold(l, &rivals, &mut held);
+    let mut fresh = [0u32; places::MOST_VERTICES];
+    reach::first_reach(l, &mut fresh);
+    let mut flags = [0u8; places::MOST_VERTICES];
     let contested = charges::mark_contested(l, &rivals, &held, &mut flags);
-    let mut charge = [0u64; 128];
+    let mut charge = [0u64; places::MOST_VERTICES];
     charges::fill_charges(l, &flags, &mut charge);
     let cold = charges::cold_functions(l, &flags, &fresh);
     let first = charges::first_loads(l, cold);
-    let greatest = longest::greatest_charges(l, &charge);
-    let bound = charges::sum(greatest, first);
-    if LIMIT < bound.0 {
-        return BoundAnswer::Refused(Refusal::PastLimit(0));
+    let greatest = iterations::greatest_charges(l, &charge);
+    let bound = units::sum_of_cycles(greatest, first);
+    if limits::MOST_BOUND < bound.0 {
+        return BoundAnswer::Refused(Refusal::BoundTooLarge(0));
     }
     BoundAnswer::Bounded(Bound {
         need: need,
@@ -47,13 +49,13 @@ pub fn price(l: &[u64; 1446], layout: &[u8], need: Bytes) -> BoundAnswer
 }
 
 // Bound on checked numbers: the layout, and its price.
-pub fn bound_checked(l: &[u64; 1446], layout: &[u8]) -> BoundAnswer
+pub fn bound_checked(l: &Numbers, layout: &[u8]) -> BoundAnswer
     requires { ⌜ Checked (now l) ⌝ }
     ensures { λ r. ⌜ BoundSays (problemOf (now (l .entry))) (now (layout .entry)) r ⌝ }
 {
     let judged = layout::judge(l, layout);
     let LayoutAnswer::Fits(need) = judged else {
-        return BoundAnswer::Refused(layout::refusal_in(judged));
+        return BoundAnswer::Refused(model::refusal_in(layout::verdict_of(judged)));
     };
     price(l, layout, need)
 }
@@ -63,9 +65,9 @@ pub fn bound(problem: Problem, layout: &[u8]) -> BoundAnswer
     ensures { λ r. ⌜ BoundSays problem (now (layout .entry)) r ⌝ }
 {
     let numbers = numbers::numbers_of(problem);
-    let checked = file::check(&numbers);
-    let Fields::Done(_) = checked else {
-        return BoundAnswer::Refused(file::refusal_in(checked));
+    let verdict = file::judge(&numbers);
+    let Verdict::Accepted = verdict else {
+        return BoundAnswer::Refused(model::refusal_in(verdict));
     };
     bound_checked(&numbers, layout)
 }

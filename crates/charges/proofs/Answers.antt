@@ -16,9 +16,9 @@ use Rattle.sound.specs.Decide.{contestedTest}
 use Rattle.charges.specs.Tests.{contestedBy, flagged, chargeAt}
 
 -- A vertex is contested as the two words say.
-module _ (p : Problem) (rivals latest : List ℕ) (v : ℕ) where
-  pub contested-told : {f : ℕ} {t : Bool} → v < p .«vertex_count» → f ≡ functionOf p v → t ≡ ltb 0 (bitAnd (getD latest v 0) (getD rivals f 0)) →
-      t ≡ contestedBy p rivals latest v
+module _ (p : Problem) (rivals held : List ℕ) (v : ℕ) where
+  pub contested-told : {f : ℕ} {t : Bool} → v < p .«vertex_count» → f ≡ functionOf p v → t ≡ ltb 0 (bitAnd (getD held v 0) (getD rivals f 0)) →
+      t ≡ contestedBy p rivals held v
   unfolding contestedBy contestedTest
   contested-told below of-v e = rw (lt-ltb v (p .«vertex_count») below, ← of-v) e
 

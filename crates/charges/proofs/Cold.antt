@@ -14,7 +14,7 @@ use Rattle.model.specs.Results.{Member}
 use Rattle.model.proofs.Cases.{by-bool, true-not-false}
 use Rattle.bits.specs.Tests.{has}
 use Rattle.bits.proofs.Bits.{none-in-zero, or-left, or-right, or-only, pow-member, pow-only}
-use Rattle.latest.proofs.Bits.{and-members}
+use Rattle.bits.proofs.Members.{and-members}
 use Rattle.charges.specs.Tests.{flagged, EarlyAt, ColdBelow, ColdWord}
 
 module _ (p : Problem) (flags fresh : List ℕ) where

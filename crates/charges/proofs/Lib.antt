@@ -2,5 +2,5 @@ pub mod Sizes
 pub mod Answers
 pub mod Filling
 pub mod Cold
-pub mod Marks
+pub mod Flags
 pub mod Told

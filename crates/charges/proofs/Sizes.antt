@@ -9,32 +9,31 @@ use Rattle.model.specs.Operations.{Checked}
 use Rattle.model.specs.Costs.{functionOf, ownCost, loadCost, total}
 use Rattle.model.specs.Charges.{visitCharge, firstLoads}
 use Rattle.model.proofs.Cases.{by-cond}
-use Rattle.lookup.proofs.Places.{few-functions, load-high, function-below, cost-high}
+use Rattle.facts.specs.Fields.{FieldFacts}
+use Rattle.lookup.proofs.Places.{facts, few-functions, load-high, function-below, cost-high}
 use Rattle.layout.proofs.Sums.{Upto, total-more, total-high}
 use Rattle.charges.specs.Tests.{chargeLimit, firstLoad, firstLimit, LoadedFirst}
+use Rattle.model.specs.Limits as limits
 
 module _ (l : List ℕ) (checked : Checked l) where
   -- A load cost that is charged or not.
-  load-or-none : (t : Bool) (f : ℕ) → f < problemOf l .«function_count» → cond t (loadCost (problemOf l) f) 0 ≤ 16777215
-  load-or-none t f below = by-cond (λ (x : ℕ). x ≤ 16777215) t (λ e. load-high l checked f below) (λ e. omega arith)
+  load-or-none : (t : Bool) (f : ℕ) → f < problemOf l .«function_count» → cond t (loadCost (problemOf l) f) 0 ≤ limits.mostCycles
+  load-or-none t f below = by-cond (λ (x : ℕ). x ≤ limits.mostCycles) t (λ e. load-high l (facts _ checked) f below) (λ e. omega arith)
 
   module _ (v : ℕ) (below : v < problemOf l .«vertex_count») {f : ℕ} (of-v : f ≡ functionOf (problemOf l) v) where
-    pub own-function : Checked l × (f < problemOf l .«function_count»)
-    own-function = (checked, omega (arith, function-below l checked v below))
-
-    pub own-small : f < 32
-    own-small = omega (arith, own-function .1, few-functions l checked)
+    pub own-function : FieldFacts l × (f < problemOf l .«function_count»)
+    own-function = (facts l checked, omega (arith, function-below l (facts _ checked) v below))
 
     pub cost-and-load : ownCost (problemOf l) v + loadCost (problemOf l) f ≤ chargeLimit
-    cost-and-load = omega (arith, cost-high l checked v below, load-high l checked f (own-function .1))
+    cost-and-load = omega (arith, cost-high l (facts _ checked) v below, load-high l (facts _ checked) f (own-function .1))
 
   pub visit-high : (contested : ℕ → Bool) (v : ℕ) → v < problemOf l .«vertex_count» → visitCharge (problemOf l) contested v ≤ chargeLimit
   unfolding visitCharge
   visit-high contested v below =
       omega (
         arith,
-        cost-high l checked v below,
-        load-or-none (contested v) (functionOf (problemOf l) v) (function-below l checked v below),
+        cost-high l (facts _ checked) v below,
+        load-or-none (contested v) (functionOf (problemOf l) v) (function-below l (facts _ checked) v below),
       )
 
   module _ (cold : ℕ → Bool) where
@@ -44,8 +43,8 @@ module _ (l : List ℕ) (checked : Checked l) where
     some-loads-high n within =
         omega (
           arith,
-          few-functions l checked,
-          total-high (firstLoad (problemOf l) cold) n 16777215 (λ f h. load-or-none (cold f) f (omega arith)),
+          few-functions l (facts _ checked),
+          total-high (firstLoad (problemOf l) cold) n limits.mostCycles (λ f h. load-or-none (cold f) f (omega arith)),
         )
 
     pub loads-fit : {f loads load : ℕ} → Upto (λ n. total n (firstLoad (problemOf l) cold)) (problemOf l .«function_count») f loads →

@@ -1,6 +1,6 @@
 -- Tables that hold what regions may hold and the first reach of a checked problem tell which vertices are contested and which functions are cold; and
 -- its walks stay among its vertices, so that charges which agree there come to the same.
-use Prim.Native.Nat.{ℕ, _+_, _*_, _/_, _%_, _^_, _<_}
+use Prim.Native.Nat.{ℕ, _/_, _%_, _^_, _<_}
 use mathlib.Core.Path.{_≡_, refl, sym, ap, _∙_}
 use mathlib.Core.List.{List, _∷_}
 use mathlib.Core.Bool.{Bool, true}
@@ -19,20 +19,18 @@ use Rattle.model.specs.Interference.{Contested}
 use Rattle.model.specs.Charges.{Told, visitCharge, charges}
 use Rattle.model.specs.Results.{Member}
 use Rattle.model.proofs.Lists.{index-of}
-use Rattle.lookup.proofs.Places.{facts, vertex-count, function-below}
-use Rattle.graph.specs.Counts.{Counted}
-use Rattle.graph.proofs.Places.{edge-count, edge-at}
+use Rattle.lookup.proofs.Places.{facts, some-vertex, function-below, to-below}
 use Rattle.sound.specs.Decide.{EarlyVertex}
 use Rattle.sound.proofs.Held.{contested-held}
 use Rattle.sound.proofs.Decide.{told}
-use Rattle.interference.specs.Flows.{FreshTable}
-use Rattle.latest.specs.Rivals.{RivalTable}
-use Rattle.latest.specs.Flow.{LatestTable}
-use Rattle.latest.proofs.Bits.{common}
-use Rattle.latest.proofs.Flow.{held-known}
+use Rattle.reach.specs.Fresh.{FreshTable}
+use Rattle.held.specs.Rivals.{RivalTable}
+use Rattle.held.specs.Flow.{HeldTable}
+use Rattle.bits.proofs.Members.{common}
+use Rattle.held.proofs.Flow.{held-known}
 use Rattle.bits.specs.Tests.{has}
-use Rattle.charges.specs.Tests.{freshTest, sharedTest, contestedBy, Marked, ColdWord, Charged}
-use Rattle.charges.proofs.Marks.{marked-flag}
+use Rattle.charges.specs.Tests.{freshTest, sharedTest, contestedBy, FlagsTell, ColdWord, Charged}
+use Rattle.charges.proofs.Flags.{flag-told}
 
 -- A bit's test, for what its being set says.
 told-by-bit : (word g : ℕ) {P : Type 0} → Member word g ↔ P → (has word g ≡ true) ↔ P
@@ -40,27 +38,17 @@ unfolding has
 told-by-bit word g iff = (λ e. iff .0 (eqb-true (word / 2 ^ g % 2) 1 e), λ x. eq-eqb (word / 2 ^ g % 2) 1 (iff .1 x))
 
 module _ {l : List ℕ} (checked : Checked l) where
-  counted : Counted l
-  counted =
-      record {
-        some-vertex = facts l checked .some-vertex;
-        vertices = facts l checked .vertices;
-        edges = facts l checked .edges;
-        loops = facts l checked .loops;
-      }
-
   end-below : {u v : ℕ} → EdgeOf (problemOf l) u v → v < problemOf l .«vertex_count»
   end-below {u} {v} member =
       let (i, below, is) = index-of zeroEdge member in
-      let to-is : getD l (326 + 2 * i) 0 ≡ v = ap (λ (e : Edge). e .to) (sym (edge-at l counted i below) ∙ is) in
-      omega (arith, facts l checked .to i (omega (arith, edge-count l counted)), vertex-count l)
+      omega (arith, ap (λ (e : Edge). e .to) is, to-below l (facts l checked) i below)
 
   pub walk-below : {v : ℕ} {h : List ℕ} → Walk (EdgeOf (problemOf l)) v h → v < problemOf l .«vertex_count»
-  walk-below start = omega (arith, facts l checked .some-vertex, vertex-count l)
+  walk-below start = some-vertex l (facts l checked)
   walk-below (step walk edge) = end-below edge
 
   pub walk-function : {v : ℕ} {h : List ℕ} → Walk (EdgeOf (problemOf l)) v h → functionOf (problemOf l) v < problemOf l .«function_count»
-  walk-function {v} walk = function-below l checked v (walk-below walk)
+  walk-function {v} walk = function-below l (facts _ checked) v (walk-below walk)
 
   -- Charges that agree on the vertices come to the same on a walk, without the vertex that it arrives at and with it.
   module _ (c c′ : ℕ → ℕ) (same : (v : ℕ) → v < problemOf l .«vertex_count» → c v ≡ c′ v) where
@@ -78,45 +66,45 @@ module _ {l : List ℕ} (checked : Checked l) where
       charges (λ u. getD charge u 0) (v ∷ h) ≡ charges (visitCharge (problemOf l) test) (v ∷ h)
   charges-table {test} {charge} charged walk = charges-agree (λ u. getD charge u 0) (visitCharge (problemOf l) test) (charged .charged) walk
 
-  module _ (layout rivals latest fresh flags : List ℕ) (cold : ℕ) (is-rivals : RivalTable (problemOf l) layout rivals)
-      (is-latest : LatestTable (problemOf l) rivals latest) (is-fresh : FreshTable (problemOf l) fresh)
-      (marked : Marked (problemOf l .«vertex_count») (contestedBy (problemOf l) rivals latest) flags) (is-cold : ColdWord (problemOf l) flags fresh cold) where
+  module _ (layout rivals held fresh flags : List ℕ) (cold : ℕ) (is-rivals : RivalTable (problemOf l) layout rivals)
+      (is-held : HeldTable (problemOf l) rivals held) (is-fresh : FreshTable (problemOf l) fresh)
+      (kept : FlagsTell (problemOf l .«vertex_count») (contestedBy (problemOf l) rivals held) flags) (is-cold : ColdWord (problemOf l) flags fresh cold) where
     module _ (v : ℕ) (below : v < problemOf l .«vertex_count») where
       abbrev f : ℕ
       f = functionOf (problemOf l) v
 
       own : f < problemOf l .«function_count»
-      own = function-below l checked v below
+      own = function-below l (facts _ checked) v below
 
-      shared : (sharedTest rivals latest (problemOf l) v ≡ true) ↔ Contested (functionOf (problemOf l)) (EdgeOf (problemOf l)) (regionOf layout) v
+      shared : (sharedTest rivals held (problemOf l) v ≡ true) ↔ Contested (functionOf (problemOf l)) (EdgeOf (problemOf l)) (regionOf layout) v
       shared = (
         λ e.
-            let (g, held, rival) = common (getD latest v 0) (getD rivals f 0) .0 (ltb-true 0 _ e) in
+            let (g, held, rival) = common (getD held v 0) (getD rivals f 0) .0 (ltb-true 0 _ e) in
             let (ne, known, same) = is-rivals .member f own g .0 rival in
-            contested-held (functionOf (problemOf l)) (regionOf layout) (EdgeOf (problemOf l)) v .1 (g, (λ q. ne (sym q)), same, is-latest .member layout is-rivals v g .0 held),
+            contested-held (functionOf (problemOf l)) (regionOf layout) (EdgeOf (problemOf l)) v .1 (g, (λ q. ne (sym q)), same, is-held .member layout is-rivals v g .0 held),
         λ c.
             let (g, ne, same, holds) = contested-held (functionOf (problemOf l)) (regionOf layout) (EdgeOf (problemOf l)) v .0 c in
-            lt-ltb 0 _ (common (getD latest v 0) (getD rivals f 0) .1 (
+            lt-ltb 0 _ (common (getD held v 0) (getD rivals f 0) .1 (
               g,
-              is-latest .member layout is-rivals v g .1 holds,
+              is-held .member layout is-rivals v g .1 holds,
               is-rivals .member f own g .1 ((λ q. ne (sym q)), held-known l checked layout v g holds, same),
             )),
       )
 
-    early : (f : ℕ) → (has cold f ≡ true) ↔ EarlyVertex (problemOf l) (sharedTest rivals latest (problemOf l)) (freshTest fresh (problemOf l)) f
+    early : (f : ℕ) → (has cold f ≡ true) ↔ EarlyVertex (problemOf l) (sharedTest rivals held (problemOf l)) (freshTest fresh (problemOf l)) f
     unfolding contestedBy
     early f = told-by-bit cold f (
-      λ m. let (v, below, is) = is-cold .member f .0 m in (v, below, is .of, sym (marked-flag marked v below) ∙ is .free, is .first),
-      λ (v, below, of-f, free, first). is-cold .member f .1 (v, below, record { of = of-f; free = marked-flag marked v below ∙ free; first = first }),
+      λ m. let (v, below, is) = is-cold .member f .0 m in (v, below, is .of, sym (flag-told kept v below) ∙ is .free, is .first),
+      λ (v, below, of-f, free, first). is-cold .member f .1 (v, below, record { of = of-f; free = flag-told kept v below ∙ free; first = first }),
     )
 
-    pub told-by-tables : Told (problemOf l) layout (contestedBy (problemOf l) rivals latest) (has cold)
+    pub told-by-tables : Told (problemOf l) layout (contestedBy (problemOf l) rivals held) (has cold)
     unfolding contestedBy
     told-by-tables =
-        told (problemOf l) layout (sharedTest rivals latest (problemOf l)) (freshTest fresh (problemOf l)) (has cold)
+        told (problemOf l) layout (sharedTest rivals held (problemOf l)) (freshTest fresh (problemOf l)) (has cold)
         (record {
           vertex = λ v h walk. walk-below walk;
           contested = shared;
-          reached = λ v below. told-by-bit (getD fresh v 0) _ (is-fresh .member v (functionOf (problemOf l) v) below (function-below l checked v below));
+          reached = λ v below. told-by-bit (getD fresh v 0) _ (is-fresh .member v (functionOf (problemOf l) v) below (function-below l (facts _ checked) v below));
           early = early;
         })

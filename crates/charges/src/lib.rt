@@ -1,31 +1,33 @@
 // Contested vertices, visit charges and first loads, from tables of what regions may hold and of first reach. A problem is its checked numbers.
 use model::Cycles;
+use model::Numbers;
+use model::places;
+use model::units;
 ghost use mathlib.Core.Path.{_≡_};
 ghost use mathlib.Core.Bool.{cond};
 ghost use mathlib.Core.Logic.{_↔_};
-ghost use Prim.Native.Nat.{ℕ, _+_, _<_, _≤_};
+ghost use Prim.Native.Nat.{ℕ, _<_};
 ghost use lib.ListN.{length};
 ghost use Rattle.model.specs.Numbers.{problemOf};
 ghost use Rattle.model.specs.Operations.{Checked};
 ghost use Rattle.model.specs.Charges.{visitCharge};
+ghost use Rattle.model.specs.Places.{mostVertices};
 ghost use Rattle.model.specs.Results.{Member};
 ghost use Rattle.bits.specs.Tests.{has};
 ghost use Rattle.charges.specs.Tests.{contestedBy, flagged, EarlyAt, ColdWord, chargeAt, firstLoad, Tallied, Charged, LoadedFirst};
 
-fn has_bit(word: u32, g: usize) -> bool
-    requires { ⌜ g < 32 ⌝ }
-    ensures { λ r. ⌜ r ≡ has word g ⌝ }
-{
-    (word >> g) % 2 == 1
-}
-
 // Whether some walk arrives at v with a rival of its function held: two words have a member in common.
-fn is_contested(l: &[u64; 1446], rivals: &[u32; 32], latest: &[u32; 128], v: usize) -> bool
+fn is_contested(
+    l: &Numbers,
+    rivals: &[u32; places::MOST_FUNCTIONS],
+    held: &[u32; places::MOST_VERTICES],
+    v: usize,
+) -> bool
     requires { ⌜ Checked (now l) ⌝ ∗ ⌜ v < problemOf (now l) .«vertex_count» ⌝ }
-    ensures { λ r. ⌜ r ≡ contestedBy (problemOf (now (l .entry))) (now (rivals .entry)) (now (latest .entry)) v ⌝ }
+    ensures { λ r. ⌜ r ≡ contestedBy (problemOf (now (l .entry))) (now (rivals .entry)) (now (held .entry)) v ⌝ }
 {
     let f = lookup::function_of(l, v);
-    0 < latest[v] & rivals[f]
+    0 < held[v] & rivals[f]
 }
 
 fn flag_of(set: bool) -> u8
@@ -39,19 +41,19 @@ fn flag_of(set: bool) -> u8
 
 // Flags the contested vertices, and counts them.
 pub fn mark_contested(
-    l: &[u64; 1446],
-    rivals: &[u32; 32],
-    latest: &[u32; 128],
-    flags: &mut [u8; 128],
+    l: &Numbers,
+    rivals: &[u32; places::MOST_FUNCTIONS],
+    held: &[u32; places::MOST_VERTICES],
+    flags: &mut [u8; places::MOST_VERTICES],
 ) -> usize
-    requires { ⌜ Checked (now l) ⌝ ∗ ⌜ length (now flags) ≡ 128 ⌝ }
-    ensures { λ r. ⌜ Tallied (problemOf (now (l .entry)) .«vertex_count») (contestedBy (problemOf (now (l .entry))) (now (rivals .entry)) (now (latest .entry))) (now (flags .exit)) r ⌝ }
+    requires { ⌜ Checked (now l) ⌝ ∗ ⌜ length (now flags) ≡ mostVertices ⌝ }
+    ensures { λ r. ⌜ Tallied (problemOf (now (l .entry)) .«vertex_count») (contestedBy (problemOf (now (l .entry))) (now (rivals .entry)) (now (held .entry))) (now (flags .exit)) r ⌝ }
 {
-    let count = graph::vertex_count(l);
+    let count = lookup::vertex_count(l);
     let mut tally: usize = 0;
     let mut v: usize = 0;
     while v < count {
-        let flag = flag_of(is_contested(l, rivals, latest, v));
+        let flag = flag_of(is_contested(l, rivals, held, v));
         flags[v] = flag;
         tally += flag as usize;
         v += 1;
@@ -59,43 +61,40 @@ pub fn mark_contested(
     tally
 }
 
-pub fn sum(a: Cycles, b: Cycles) -> Cycles
-    requires { ⌜ a .0 + b .0 ≤ 18446744073709551615 ⌝ }
-    ensures { λ r. ⌜ r .0 ≡ a .0 + b .0 ⌝ }
-{
-    Cycles(a.0 + b.0)
-}
-
 // A vertex's own cost, plus its function's load cost where it is flagged.
-fn visit_charge(l: &[u64; 1446], flags: &[u8; 128], v: usize) -> Cycles
+fn visit_charge(l: &Numbers, flags: &[u8; places::MOST_VERTICES], v: usize) -> Cycles
     requires { ⌜ Checked (now l) ⌝ ∗ ⌜ v < problemOf (now l) .«vertex_count» ⌝ }
     ensures { λ r. ⌜ r .0 ≡ visitCharge (problemOf (now (l .entry))) (flagged (now (flags .entry))) v ⌝ }
 {
     let own = lookup::own_cost(l, v);
     if flags[v] == 1 {
         let f = lookup::function_of(l, v);
-        return sum(own, lookup::load_of(l, f));
+        return units::sum_of_cycles(own, lookup::load_of(l, f));
     }
     own
 }
 
 // The visit charge of a vertex, and 0 past the vertices.
-fn charge_at(l: &[u64; 1446], flags: &[u8; 128], v: usize) -> Cycles
+fn charge_at(l: &Numbers, flags: &[u8; places::MOST_VERTICES], v: usize) -> Cycles
     requires { ⌜ Checked (now l) ⌝ }
     ensures { λ r. ⌜ r .0 ≡ chargeAt (problemOf (now (l .entry))) (flagged (now (flags .entry))) v ⌝ }
 {
-    if v < graph::vertex_count(l) {
+    if v < lookup::vertex_count(l) {
         return visit_charge(l, flags, v);
     }
     Cycles(0)
 }
 
-pub fn fill_charges(l: &[u64; 1446], flags: &[u8; 128], charge: &mut [u64; 128])
-    requires { ⌜ Checked (now l) ⌝ ∗ ⌜ length (now charge) ≡ 128 ⌝ }
+pub fn fill_charges(
+    l: &Numbers,
+    flags: &[u8; places::MOST_VERTICES],
+    charge: &mut [u64; places::MOST_VERTICES],
+)
+    requires { ⌜ Checked (now l) ⌝ ∗ ⌜ length (now charge) ≡ mostVertices ⌝ }
     ensures { λ r. ⌜ Charged (problemOf (now (l .entry))) (flagged (now (flags .entry))) (now (charge .exit)) ⌝ }
 {
     let mut v: usize = 0;
-    while v < 128 {
+    while v < places::MOST_VERTICES {
         let visit = charge_at(l, flags, v);
         charge[v] = visit.0;
         v += 1;
@@ -103,7 +102,12 @@ pub fn fill_charges(l: &[u64; 1446], flags: &[u8; 128], charge: &mut [u64; 128])
 }
 
 // The function of v, where v is not flagged and a walk reaches it with no earlier vertex of that function; else no function.
-fn early_at(l: &[u64; 1446], flags: &[u8; 128], fresh: &[u32; 128], v: usize) -> u32
+fn early_at(
+    l: &Numbers,
+    flags: &[u8; places::MOST_VERTICES],
+    fresh: &[u32; places::MOST_VERTICES],
+    v: usize,
+) -> u32
     requires { ⌜ Checked (now l) ⌝ ∗ ⌜ v < problemOf (now l) .«vertex_count» ⌝ }
     ensures { λ r. ⌜ ((f : ℕ) → Member r f ↔ EarlyAt (problemOf (now (l .entry))) (now (flags .entry)) (now (fresh .entry)) f v) ⌝ }
 {
@@ -115,11 +119,15 @@ fn early_at(l: &[u64; 1446], flags: &[u8; 128], fresh: &[u32; 128], v: usize) ->
 }
 
 // The cold functions.
-pub fn cold_functions(l: &[u64; 1446], flags: &[u8; 128], fresh: &[u32; 128]) -> u32
+pub fn cold_functions(
+    l: &Numbers,
+    flags: &[u8; places::MOST_VERTICES],
+    fresh: &[u32; places::MOST_VERTICES],
+) -> u32
     requires { ⌜ Checked (now l) ⌝ }
     ensures { λ r. ⌜ ColdWord (problemOf (now (l .entry))) (now (flags .entry)) (now (fresh .entry)) r ⌝ }
 {
-    let count = graph::vertex_count(l);
+    let count = lookup::vertex_count(l);
     let mut cold: u32 = 0;
     let mut v: usize = 0;
     while v < count {
@@ -130,18 +138,18 @@ pub fn cold_functions(l: &[u64; 1446], flags: &[u8; 128], fresh: &[u32; 128]) ->
 }
 
 // What a function adds to the first loads: its load cost where it is cold.
-fn first_load(l: &[u64; 1446], cold: u32, f: usize) -> Cycles
+fn first_load(l: &Numbers, cold: u32, f: usize) -> Cycles
     requires { ⌜ Checked (now l) ⌝ ∗ ⌜ f < problemOf (now l) .«function_count» ⌝ }
     ensures { λ r. ⌜ r .0 ≡ firstLoad (problemOf (now (l .entry))) (has cold) f ⌝ }
 {
-    if has_bit(cold, f) {
+    if bits::has_bit(cold, f) {
         return lookup::load_of(l, f);
     }
     Cycles(0)
 }
 
 // The load cost of each cold function once.
-pub fn first_loads(l: &[u64; 1446], cold: u32) -> Cycles
+pub fn first_loads(l: &Numbers, cold: u32) -> Cycles
     requires { ⌜ Checked (now l) ⌝ }
     ensures { λ r. ⌜ LoadedFirst (problemOf (now (l .entry))) (has cold) (r .0) ⌝ }
 {
@@ -149,7 +157,7 @@ pub fn first_loads(l: &[u64; 1446], cold: u32) -> Cycles
     let mut loads = Cycles(0);
     let mut f: usize = 0;
     while f < count {
-        loads = sum(loads, first_load(l, cold, f));
+        loads = units::sum_of_cycles(loads, first_load(l, cold, f));
         f += 1;
     }
     loads

@@ -7,8 +7,8 @@ use Rattle.model.specs.Numbers.{problemOf}
 use Rattle.model.specs.Operations.{readFile, writeProblem, writtenBuffer}
 use Rattle.model.specs.declared.InterferenceAnswer.{InterferenceAnswer}
 use Rattle.model.specs.declared.BoundAnswer.{BoundAnswer}
-use Rattle.model.specs.Results.{InterferenceSays, BoundSays, runWalk}
-use Rattle.examiner.specs.Outcomes.{Outcome, Results, Refusing, counts, onRead, onWritten, onFilled, onBounded, onRan, heldAfter, ByRead}
+use Rattle.model.specs.Results.{InterferenceSays, BoundSays, runWalk, runRegions}
+use Rattle.outcomes.specs.Outcomes.{Outcome, Results, Refusing, counts, onRead, onWritten, onFilled, onBounded, onRan, ByRead}
 
 -- **examiner_read**
 abbrev pub readOutcome : List ℕ → Outcome
@@ -44,8 +44,7 @@ BoundOutcome file layout o = ByRead (readFile file) (λ p. IsBounded p layout o)
 
 -- **examiner_run**
 abbrev pub runOutcome : List ℕ → List ℕ → List ℕ → Outcome
-runOutcome file layout walk = onRead (readFile file) (λ p. onRan (runWalk p layout walk .verdict)) Refusing
+runOutcome file layout walk = onRead (readFile file) (λ p. onRan (runWalk p layout walk)) Refusing
 
 abbrev pub runHeld : List ℕ → List ℕ → List ℕ → List ℕ → List ℕ
-runHeld file layout walk held =
-    onRead (readFile file) (λ p. heldAfter (runWalk p layout walk .verdict) (runWalk p layout walk .held) held) (λ f. held)
+runHeld file layout walk held = onRead (readFile file) (λ p. runRegions p layout walk held) (λ f. held)

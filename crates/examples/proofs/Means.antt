@@ -11,7 +11,7 @@ use borrow.Author.Tests.{eqb-true, leb-true}
 use Rattle.model.specs.declared.Refusal.{Refusal}
 use Rattle.model.specs.declared.Verdict.{Verdict}
 use Rattle.model.specs.declared.Verdict.the-variants as verdict
-use Rattle.model.specs.declared.RunVerdict.the-variants as run
+use Rattle.model.specs.declared.RunAnswer.the-variants as run
 use Rattle.model.specs.declared.Problem.{Problem}
 use Rattle.model.specs.Refusals.{number, place}
 use Rattle.model.specs.Graph.{judgeGraph}
@@ -28,11 +28,12 @@ use Rattle.model.proofs.Cases.{and-left, and-right, true-not-false}
 use Rattle.sound.proofs.Sound.{cycles-covered}
 use Rattle.sound.proofs.Decide.{told}
 use Rattle.examples.specs.Claims.{Claim, sets, bounds, boundRefused, runs, runRefused, longestRun, reads, readRefused, RefusedAs, Means}
-use Rattle.examples.specs.Tests.{has, settled, ownMember, ownFresh, setIs, shared, contested, cold, accepted, refusedAs, passes}
+use Rattle.examples.specs.Tests.{has, settled, ownMember, ownFresh, setIs, shared, contested, cold, accepted, verdictOf, refusedAs, passes}
 use Rattle.examples.proofs.Passed.{each, all-at, has-is, every-below}
 use Rattle.examples.proofs.Greatest.{greatest-is}
 use Rattle.examples.proofs.Tables.{member-below, member-is, walk-below, function-below, member-all, tables}
 use Rattle.examples.proofs.Reading.{read-accepts, read-refuses}
+use Rattle.model.specs.Places as places
 
 accepted-is : (v : Verdict) → accepted v ≡ true → v ≡ verdict.Accepted
 accepted-is verdict.Accepted e = refl
@@ -105,7 +106,7 @@ runs-mean p layout walk c n ok =
     )
 
 run-refuses : (p : Problem) (layout walk : List ℕ) (f : Refusal) → judgeRun p layout walk ≡ verdict.Refused f →
-    runWalk p layout walk .verdict ≡ run.Refused f
+    runWalk p layout walk ≡ run.Refused f
 unfolding runWalk
 run-refuses p layout walk f e = rw e
 
@@ -115,10 +116,10 @@ reads-mean file p ok =
     let (ends, (numbers, (functions, (vertices, (edges, (loops, (graph, _))))))) = each _ ok in
     read-accepts p
     (record {
-      functions = eqb-true (length (p .functions)) 32 functions;
-      vertices = eqb-true (length (p .vertices)) 128 vertices;
-      edges = eqb-true (length (p .edges)) 512 edges;
-      loops = eqb-true (length (p .loops)) 32 loops;
+      functions = eqb-true (length (p .functions)) places.mostFunctions functions;
+      vertices = eqb-true (length (p .vertices)) places.mostVertices vertices;
+      edges = eqb-true (length (p .edges)) places.mostEdges edges;
+      loops = eqb-true (length (p .loops)) places.mostLoops loops;
     })
     (accepted-is (judgeGraph p) graph) file ends numbers
 
@@ -131,4 +132,4 @@ means (runs p layout walk c n) ok = runs-mean p layout walk c n ok
 means (runRefused p layout walk n at) ok = refused-as n at (judgeRun p layout walk) _ (run-refuses p layout walk) ok
 means (longestRun p layout c) ok = greatest-is p (cycles p layout) c ok
 means (reads file p) ok = reads-mean file p ok
-means (readRefused file n at) ok = refused-as n at (readFile file .verdict) _ (λ f. read-refuses f file) ok
+means (readRefused file n at) ok = refused-as n at (verdictOf (readFile file)) _ (λ f. read-refuses f (readFile file)) ok

@@ -5,18 +5,18 @@ use mathlib.Core.List.{List, [], List·Memᴰ}
 use mathlib.Core.Logic.{_↔_}
 use lib.ListN.{getD}
 use Rattle.model.specs.declared.Refusal.{Refusal}
-use Rattle.model.specs.declared.Verdict.the-variants as verdict
 use Rattle.model.specs.declared.Problem.{Problem}
+use Rattle.model.specs.declared.ReadAnswer.the-variants as read
 use Rattle.model.specs.declared.Bound.{Bound}
 use Rattle.model.specs.declared.BoundAnswer.the-variants as bound
-use Rattle.model.specs.declared.RunVerdict.the-variants as run
+use Rattle.model.specs.declared.RunAnswer.the-variants as run
 use Rattle.model.specs.Refusals.{number, place}
 use Rattle.model.specs.Zero.{bytes, cycles as cyclesOf}
 use Rattle.model.specs.Costs.{functionOf}
 use Rattle.model.specs.Walks.{EdgeOf, Greatest}
 use Rattle.model.specs.Interference.{Interferes}
 use Rattle.model.specs.Runs.{cycles}
-use Rattle.model.specs.Operations.{unread, readFile}
+use Rattle.model.specs.Operations.{readFile}
 use Rattle.model.specs.Results.{BoundSays, runWalk}
 
 pub data Claim : Type 0 where
@@ -47,8 +47,8 @@ Means (sets p each) =
     (v : ℕ) → v < p .«vertex_count» → (g : ℕ) → Interferes (functionOf p) (EdgeOf p) v (functionOf p v) g ↔ List·Memᴰ g (getD each v [])
 Means (bounds p layout need contested first most) = BoundSays p layout (bound.Bounded (given need contested first most))
 Means (boundRefused p layout n at) = RefusedAs n at (λ f. BoundSays p layout (bound.Refused f))
-Means (runs p layout walk c n) = runWalk p layout walk .verdict ≡ run.Ran (record { cycles = cyclesOf c; loads = n })
-Means (runRefused p layout walk n at) = RefusedAs n at (λ f. runWalk p layout walk .verdict ≡ run.Refused f)
+Means (runs p layout walk c n) = runWalk p layout walk ≡ run.Ran (record { cycles = cyclesOf c; loads = n })
+Means (runRefused p layout walk n at) = RefusedAs n at (λ f. runWalk p layout walk ≡ run.Refused f)
 Means (longestRun p layout c) = Greatest p (cycles p layout) c
-Means (reads file p) = readFile file ≡ record { verdict = verdict.Accepted; problem = p }
-Means (readRefused file n at) = RefusedAs n at (λ f. readFile file ≡ unread f)
+Means (reads file p) = readFile file ≡ read.Accepted p
+Means (readRefused file n at) = RefusedAs n at (λ f. readFile file ≡ read.Refused f)

@@ -6,6 +6,7 @@ use Rattle.model.specs.declared.Edge.{Edge}
 use Rattle.model.specs.declared.Loop.{Loop}
 use Rattle.model.specs.declared.Problem.{Problem}
 use Rattle.model.specs.Zero.{bytes, cycles, zeroFunction, zeroVertex, zeroEdge, zeroLoop}
+use Rattle.model.specs.Places as places
 
 -- Functions by their sizes and load costs, vertices by their functions and own costs.
 pub record Lists : Type 0 where
@@ -31,13 +32,13 @@ problem scratchpad l =
     record {
       scratchpad = bytes scratchpad;
       «function_count» = length (l .sizes);
-      functions = padded 32 zeroFunction (zipWith (λ size load. record { size = bytes size; load = cycles load }) (l .sizes) (l .loads));
+      functions = padded places.mostFunctions zeroFunction (zipWith (λ size load. record { size = bytes size; load = cycles load }) (l .sizes) (l .loads));
       «vertex_count» = length (l .functions);
-      vertices = padded 128 zeroVertex (zipWith (λ function cost. record { function = function; cost = cycles cost }) (l .functions) (l .costs));
+      vertices = padded places.mostVertices zeroVertex (zipWith (λ function cost. record { function = function; cost = cycles cost }) (l .functions) (l .costs));
       «edge_count» = length (l .edges);
-      edges = padded 512 zeroEdge (l .edges);
+      edges = padded places.mostEdges zeroEdge (l .edges);
       «loop_count» = length (l .loops);
-      loops = padded 32 zeroLoop (l .loops);
+      loops = padded places.mostLoops zeroLoop (l .loops);
     }
 
 abbrev pub P : ℕ → Problem

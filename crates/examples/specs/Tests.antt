@@ -7,8 +7,10 @@ use lib.ListN.{length, getD}
 use lib.Dec.{eqb, ltb, leb}
 use Rattle.model.specs.declared.Verdict.{Verdict}
 use Rattle.model.specs.declared.Verdict.the-variants as verdict
-use Rattle.model.specs.declared.Fields.{Fields}
-use Rattle.model.specs.declared.Fields.the-variants as fields
+use Rattle.model.specs.declared.ReadAnswer.{ReadAnswer}
+use Rattle.model.specs.declared.ReadAnswer.the-variants as read
+use Rattle.model.specs.declared.FieldsAnswer.{FieldsAnswer}
+use Rattle.model.specs.declared.FieldsAnswer.the-variants as fields
 use Rattle.model.specs.declared.Edge.{Edge}
 use Rattle.model.specs.declared.Problem.{Problem}
 use Rattle.model.specs.Refusals.{number, place}
@@ -27,6 +29,7 @@ use Rattle.model.specs.Verdicts.{judgeBound, judgeRun, pastBound}
 use Rattle.model.specs.Results.{boundLimit}
 use Rattle.sound.specs.Decide.{contestedTest}
 use Rattle.examples.specs.Claims.{Claim, sets, bounds, boundRefused, runs, runRefused, longestRun, reads, readRefused}
+use Rattle.model.specs.Places as places
 
 module _ {A : Type 0} (test : A → Bool) where
   unfoldable pub any : List A → Bool
@@ -140,12 +143,17 @@ abbrev pub accepted : Verdict → Bool
 accepted verdict.Accepted = true
 accepted (verdict.Refused f) = false
 
+-- Read's answer without the problem.
+abbrev pub verdictOf : ReadAnswer → Verdict
+verdictOf (read.Accepted p) = verdict.Accepted
+verdictOf (read.Refused f) = verdict.Refused f
+
 abbrev pub refusedAs : ℕ → ℕ → Verdict → Bool
 refusedAs n at verdict.Accepted = false
 refusedAs n at (verdict.Refused f) = eqb (number f) n && eqb (place f) at
 
 -- The fields end where the file does.
-abbrev pub doneAt : ℕ → Fields → Bool
+abbrev pub doneAt : ℕ → FieldsAnswer → Bool
 doneAt size (fields.Done at) = not (ltb at size)
 doneAt size (fields.Refused f) = false
 
@@ -180,6 +188,6 @@ passes (reads file p) =
     passed
     (doneAt (length file) (readFields file .answer)
     ∷ same (readFields file .numbers) (numbersOf p)
-    ∷ eqb (length (p .functions)) 32 ∷ eqb (length (p .vertices)) 128 ∷ eqb (length (p .edges)) 512 ∷ eqb (length (p .loops)) 32
+    ∷ eqb (length (p .functions)) places.mostFunctions ∷ eqb (length (p .vertices)) places.mostVertices ∷ eqb (length (p .edges)) places.mostEdges ∷ eqb (length (p .loops)) places.mostLoops
     ∷ accepted (judgeGraph p) ∷ [])
-passes (readRefused file n at) = refusedAs n at (readFile file .verdict)
+passes (readRefused file n at) = refusedAs n at (verdictOf (readFile file))

@@ -1,3 +1,8 @@
+pub mod Good
+pub mod Judging
+pub mod Agree
+pub mod Turns
+pub mod Reading
 pub mod Passed
 pub mod Reach
 pub mod Items

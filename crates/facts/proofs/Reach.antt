@@ -1,4 +1,4 @@
--- The fields that checking a problem's numbers goes through: what was checked at each, and what filling left before it.
+-- The fields that good numbers have, one after another: what is good at each and from it on, and what filling leaves before it.
 use Prim.Native.Nat.{ℕ, zero, suc, _+_, _-_, _≤_, _<_}
 use mathlib.Core.Path.{_≡_, refl, sym, ap, subst, _∙_}
 use mathlib.Core.List.{List}
@@ -10,37 +10,31 @@ use lib.Dec.{eqb}
 use borrow.Author.Count.{below-none}
 use borrow.Author.Tests.{eqb-true, eqb-false, lt-leb}
 use Rattle.model.specs.declared.Field.{Field}
-use Rattle.model.specs.declared.Fields.the-variants.{Done}
-use Rattle.model.specs.Spelling.{numberSize}
-use Rattle.model.specs.File.{firstField, numberCount, nextField, itemStart, inUse, checkFrom, checkFields}
+use Rattle.model.specs.File.{firstField, numberCount, atEnd, inUse}
+use Rattle.model.proofs.Lists.{getD-replicate-self}
 use Rattle.model.proofs.Cases.{by-bool, by-order}
 use Rattle.fields.specs.Valid.{Valid, edition}
 use Rattle.fields.specs.Fill.{fillFrom}
-use Rattle.fields.proofs.Steps.{placed, next-later, in-row}
-use Rattle.fields.proofs.OneField.{Passed, checked, fill-on}
-
-zeros : (n k : ℕ) → getD {A = ℕ} (replicate n 0) k 0 ≡ 0
-zeros zero k = refl
-zeros (suc n) zero = refl
-zeros (suc n) (suc k) = zeros n k
+use Rattle.fields.proofs.Steps.{Later, placed}
+use Rattle.fields.proofs.OneField.{Passed, fill-on}
+use Rattle.facts.proofs.Good.{Good, GoodNumbers, next, good-first, goes-later}
+use Rattle.model.specs.Places as places
+use Rattle.model.specs.Rows as rows
 
 module _ (l : List ℕ) where
-  abbrev pub next : Field → Field
-  next c = nextField c (getD l (c .place) 0)
-
   -- From a field to the next, d: its place is in use, and the places between are spare.
   pub record Gap (c d : Field) : Type 0 where
     pub used : inUse l (c .place) ≡ true
     pub spare : (k : ℕ) → c .place < k → k < d .place → inUse l k ≡ false
 
   -- A list in which the places below a field's are filled.
-  pub record Filled (c : Field) (m : List ℕ) : Type 0 where
-    pub long : length m ≡ 1446
+  pub record FilledBelow (c : Field) (m : List ℕ) : Type 0 where
+    pub long : length m ≡ places.end
     pub below : (k : ℕ) → k < c .place → getD m k 0 ≡ cond (inUse l k) (getD l k 0) 0
     pub above : (k : ℕ) → c .place ≤ k → getD m k 0 ≡ 0
 
-  filled-next : (c : Field) (m : List ℕ) → Filled c m → (d : Field) → Gap c d → c .place < 1446 → c .place < d .place →
-      Filled d (set m (c .place) (getD l (c .place) 0))
+  filled-next : (c : Field) (m : List ℕ) → FilledBelow c m → (d : Field) → Gap c d → c .place < places.end → c .place < d .place →
+      FilledBelow d (set m (c .place) (getD l (c .place) 0))
   filled-next c m f d g h up =
       record { long = length-set m p v ∙ f .long; below = below; above = λ k q. kept k (omega arith) ∙ f .above k (omega arith) }
     where
@@ -66,57 +60,48 @@ module _ (l : List ℕ) where
           (λ u. subst (λ (j : ℕ). getD (set m p v) j 0 ≡ cond (inUse l j) (getD l j 0) 0) (sym (eqb-true k p u)) here)
           (λ u. kept k (eqb-false k p u) ∙ f .above k le ∙ sym (unused k (omega (arith, eqb-false k p u)) q)))
 
-  module _ (end : ℕ) where
-    -- A field that the check comes to, with what is left of it and what filling has left by then.
-    pub record Reached (c : Field) : Type 0 where
-      pub rest : ℕ
-      pub at : ℕ
-      pub start : ℕ
-      pub filled : List ℕ
-      pub valid : Valid c
-      pub enough : 1446 ≤ rest + c .place
-      pub checking : checkFrom rest at start c l ≡ Done end
-      pub filling : fillFrom numberCount firstField l (replicate numberCount 0) ≡ fillFrom rest c l filled
-      pub state : Filled c filled
+  -- A field of good numbers, with what is left from it on and what filling has left by then.
+  pub record Reached (c : Field) : Type 0 where
+    pub rest : ℕ
+    pub filled : List ℕ
+    pub valid : Valid c
+    pub enough : places.end ≤ rest + c .place
+    pub good : Good l rest c
+    pub filling : fillFrom numberCount firstField l (replicate numberCount 0) ≡ fillFrom rest c l filled
+    pub state : FilledBelow c filled
 
-    pub first : checkFields l ≡ Done end → Reached firstField
-    first e =
-        record {
-          rest = 1446;
-          at = 0;
-          start = 0;
-          filled = replicate 1446 0;
-          valid = edition;
-          enough = omega arith;
-          checking = e;
-          filling = refl;
-          state = record { long = length-replicate {A = ℕ} 1446 0; below = below-none _; above = λ k q. zeros 1446 k };
-        }
+  pub first : GoodNumbers l → Reached firstField
+  first good =
+      record {
+        rest = places.end;
+        filled = replicate places.end 0;
+        valid = edition;
+        enough = omega arith;
+        good = good;
+        filling = refl;
+        state = record { long = length-replicate {A = ℕ} places.end 0; below = below-none _; above = λ k q. getD-replicate-self {A = ℕ} places.end k 0 };
+      }
 
-    more : {c : Field} (r : Reached c) → c .row < 15 → r .rest ≡ suc (r .rest - 1)
-    more r h = omega (arith, placed (r .valid) h .place, r .enough)
+  more : {c : Field} (r : Reached c) → c .row < rows.end → r .rest ≡ suc (r .rest - 1)
+  more r h = omega (arith, placed (r .valid) h .place, r .enough)
 
-    here : {c : Field} (r : Reached c) → c .row < 15 →
-        Passed l c × (checkFrom (r .rest - 1) (r .at + numberSize (getD l (c .place) 0)) (itemStart c (r .at) (r .start)) (next c) l ≡ Done end)
-    here {c} r h =
-        checked l (r .rest - 1) (r .at) (r .start) end c h
-        (subst (λ (n : ℕ). checkFrom n (r .at) (r .start) c l ≡ Done end) (more r h) (r .checking))
+  here : {c : Field} (r : Reached c) → c .row < rows.end → Passed l c × Good l (r .rest - 1) (next l c)
+  here {c} r h = good-first (subst (λ (n : ℕ). Good l n c) (more r h) (r .good)) h
 
-    pub passed : {c : Field} → Reached c → c .row < 15 → Passed l c
-    passed r h = here r h .0
+  pub passed : {c : Field} → Reached c → c .row < rows.end → Passed l c
+  passed r h = here r h .0
 
-    pub step : {c d : Field} → d ≡ next c → Reached c → c .row < 15 → Gap c d → Reached d
-    step {c} {d} e r h g =
-        let v : ℕ = getD l (c .place) 0 in
-        let later = rw (← e) at (next-later (r .valid) v h (in-row l c v (here r h .0 .in-range) .1)) in
-        record {
-          rest = r .rest - 1;
-          at = r .at + numberSize v;
-          start = itemStart c (r .at) (r .start);
-          filled = set (r .filled) (c .place) v;
-          valid = later .valid;
-          enough = omega (arith, more r h, r .enough, later .higher);
-          checking = rw e (here r h .1);
-          filling = r .filling ∙ ap (λ (n : ℕ). fillFrom n c l (r .filled)) (more r h) ∙ (rw e (fill-on (r .rest - 1) c l v (lt-leb 15 (c .row) h) refl (r .filled)));
-          state = filled-next c (r .filled) (r .state) d g (placed (r .valid) h .place) (later .higher);
-        }
+  pub step : {c d : Field} → d ≡ next l c → Reached c → c .row < rows.end → Gap c d → Reached d
+  step {c} {d} e r h g =
+      let v : ℕ = getD l (c .place) 0 in
+      let going : atEnd c ≡ false = lt-leb rows.end (c .row) h in
+      let later : Later c d = rw e (goes-later l (r .valid) going v (passed r h .in-range)) in
+      record {
+        rest = r .rest - 1;
+        filled = set (r .filled) (c .place) v;
+        valid = later .valid;
+        enough = omega (arith, more r h, r .enough, later .higher);
+        good = rw e (here r h .1);
+        filling = r .filling ∙ ap (λ (n : ℕ). fillFrom n c l (r .filled)) (more r h) ∙ (rw e (fill-on (r .rest - 1) c l v going refl (r .filled)));
+        state = filled-next c (r .filled) (r .state) d g (placed (r .valid) h .place) (later .higher);
+      }

@@ -1,19 +1,21 @@
--- Every field that a problem's numbers have, reached in file order where the check of them ends well.
+-- Every field that good numbers have, reached in file order.
 use Prim.Native.Nat.{ℕ, _+_, _-_, _*_, _≤_, _<_}
-use mathlib.Core.Path.{_≡_, refl}
+use mathlib.Core.Path.{refl}
 use mathlib.Core.List.{List}
 use native.Mathlib.Omega.{arith}
 use lib.ListN.{getD}
 use Rattle.model.specs.declared.Field.{Field}
-use Rattle.model.specs.declared.Fields.the-variants.{Done}
 use Rattle.model.specs.Table.{limits, bases, kinds}
-use Rattle.model.specs.File.{nextField, checkFields}
+use Rattle.model.specs.File.{nextField}
 use Rattle.fields.specs.Valid.{field}
 use Rattle.fields.proofs.OneField.{Passed}
+use Rattle.facts.proofs.Good.{GoodNumbers}
 use Rattle.facts.proofs.Passed.{in-limits}
 use Rattle.facts.proofs.Reach.{Reached, first, passed, step}
 use Rattle.facts.proofs.Items.{beside, item, following}
 use Rattle.facts.proofs.Lists as lists
+use Rattle.model.specs.Places as places
+use Rattle.model.specs.Rows as rows
 
 -- The j-th number of item i of a list with that count: the count's row and place, and how many numbers an item has.
 abbrev pub spot : ℕ → ℕ → ℕ → ℕ → ℕ → ℕ → Field
@@ -23,58 +25,58 @@ spot row place width count i j = field (row + 1 + j) (place + 1 + width * i + j)
 abbrev pub Items : List ℕ → ℕ → ℕ → ℕ → ℕ → Type 0
 Items l row place width count = (i j : ℕ) → i < count → j < width → Passed l (spot row place width count i j)
 
-module _ (l : List ℕ) (end : ℕ) (ok : checkFields l ≡ Done end) where
-  pub edition : Reached l end (field 0 0 0)
-  edition = first l end ok
+module _ (l : List ℕ) (good : GoodNumbers l) where
+  pub edition : Reached l (field rows.edition places.edition 0)
+  edition = first l good
 
-  pub scratchpad : Reached l end (field 1 1 0)
+  pub scratchpad : Reached l (field rows.scratchpad places.scratchpad 0)
   unfolding nextField kinds
-  scratchpad = step l end refl edition (omega arith) (beside l end _ _ (lists.single l 0 (omega arith)) refl)
+  scratchpad = step l refl edition (omega arith) (beside l _ _ (lists.single l places.edition (omega arith)) refl)
 
-  pub functions : Reached l end (field 2 2 0)
+  pub functions : Reached l (field rows.functionCount places.functionCount 0)
   unfolding nextField kinds
-  functions = step l end refl scratchpad (omega arith) (beside l end _ _ (lists.single l 1 (omega arith)) refl)
+  functions = step l refl scratchpad (omega arith) (beside l _ _ (lists.single l places.scratchpad (omega arith)) refl)
 
-  pub few-functions : getD l 2 0 ≤ 32
+  pub few-functions : getD l places.functionCount 0 ≤ places.mostFunctions
   unfolding limits
-  few-functions = in-limits l 2 refl (passed l end functions (omega arith)) .1
+  few-functions = in-limits l places.functionCount refl (passed l functions (omega arith)) .1
 
-  pub function-items : Items l 2 2 2 (getD l 2 0)
+  pub function-items : Items l rows.functionCount places.functionCount places.functionWidth (getD l places.functionCount 0)
   unfolding bases
-  function-items = item l end 2 2 (lists.functions l) functions
+  function-items = item l rows.functionCount places.functionWidth (lists.functions l) functions
 
-  pub vertices : Reached l end (field 5 67 0)
+  pub vertices : Reached l (field rows.vertexCount places.vertexCount 0)
   unfolding bases
-  vertices = following l end 2 2 (lists.functions l) functions
+  vertices = following l rows.functionCount places.functionWidth (lists.functions l) functions
 
-  pub few-vertices : getD l 67 0 ≤ 128
+  pub few-vertices : getD l places.vertexCount 0 ≤ places.mostVertices
   unfolding limits
-  few-vertices = in-limits l 67 refl (passed l end vertices (omega arith)) .1
+  few-vertices = in-limits l places.vertexCount refl (passed l vertices (omega arith)) .1
 
-  pub vertex-items : Items l 5 67 2 (getD l 67 0)
+  pub vertex-items : Items l rows.vertexCount places.vertexCount places.vertexWidth (getD l places.vertexCount 0)
   unfolding bases
-  vertex-items = item l end 5 2 (lists.vertices l few-functions) vertices
+  vertex-items = item l rows.vertexCount places.vertexWidth (lists.vertices l few-functions) vertices
 
-  pub edges : Reached l end (field 8 324 0)
+  pub edges : Reached l (field rows.edgeCount places.edgeCount 0)
   unfolding bases
-  edges = following l end 5 2 (lists.vertices l few-functions) vertices
+  edges = following l rows.vertexCount places.vertexWidth (lists.vertices l few-functions) vertices
 
-  pub few-edges : getD l 324 0 ≤ 512
+  pub few-edges : getD l places.edgeCount 0 ≤ places.mostEdges
   unfolding limits
-  few-edges = in-limits l 324 refl (passed l end edges (omega arith)) .1
+  few-edges = in-limits l places.edgeCount refl (passed l edges (omega arith)) .1
 
-  pub edge-items : Items l 8 324 2 (getD l 324 0)
+  pub edge-items : Items l rows.edgeCount places.edgeCount places.edgeWidth (getD l places.edgeCount 0)
   unfolding bases
-  edge-items = item l end 8 2 (lists.edges l few-functions few-vertices) edges
+  edge-items = item l rows.edgeCount places.edgeWidth (lists.edges l few-functions few-vertices) edges
 
-  pub loops : Reached l end (field 11 1349 0)
+  pub loops : Reached l (field rows.loopCount places.loopCount 0)
   unfolding bases
-  loops = following l end 8 2 (lists.edges l few-functions few-vertices) edges
+  loops = following l rows.edgeCount places.edgeWidth (lists.edges l few-functions few-vertices) edges
 
-  pub loop-items : Items l 11 1349 3 (getD l 1349 0)
+  pub loop-items : Items l rows.loopCount places.loopCount places.loopWidth (getD l places.loopCount 0)
   unfolding bases
-  loop-items = item l end 11 3 (lists.loops l few-functions few-vertices few-edges) loops
+  loop-items = item l rows.loopCount places.loopWidth (lists.loops l few-functions few-vertices few-edges) loops
 
-  pub finish : Reached l end (field 15 1446 0)
+  pub finish : Reached l (field rows.end places.end 0)
   unfolding bases
-  finish = following l end 11 3 (lists.loops l few-functions few-vertices few-edges) loops
+  finish = following l rows.loopCount places.loopWidth (lists.loops l few-functions few-vertices few-edges) loops

@@ -8,14 +8,16 @@ use lib.ListN.{getD}
 use lib.Dec.{eqb, ltb, leb}
 use borrow.Author.Tests.{eq-eqb, ne-eqb, lt-ltb, le-ltb, lt-leb, le-leb}
 use Rattle.model.specs.declared.Field.{Field}
-use Rattle.model.specs.Table.{bases, base, kind, jump, countOver, least, greatest}
-use Rattle.model.specs.File.{afterCount, afterItem, nextField, belowCount, fromHeader, inRange, edgeBefore, ascends, itemStart}
+use Rattle.model.specs.Table.{bases, base, kind, countKind, firstKind, lastKind, jump, countOver, least, greatest}
+use Rattle.model.specs.File.{afterCount, afterItem, nextField, belowCount, fromHeader, inRange, edgeBefore, edgeSpan, loopSpan, ascends, itemStart}
 use Rattle.fields.proofs.Rows.{jump-below, count-below}
+use Rattle.model.specs.Places as places
+use Rattle.model.specs.Rows as rows
 
-pub jump-fits : (row to : ℕ) → row < 15 → to ≡ jump row → to < 16
+pub jump-fits : (row to : ℕ) → row < rows.end → to ≡ jump row → to < rows.end + 1
 jump-fits row to h e = omega (arith, jump-below row h)
 
-pub count-fits : (row over : ℕ) → row < 15 → over ≡ countOver row → over < 1446
+pub count-fits : (row over : ℕ) → row < rows.end → over ≡ countOver row → over < places.end
 count-fits row over h e = omega (arith, count-below row h)
 
 module _ (c : Field) (v : ℕ) where
@@ -36,29 +38,29 @@ module _ (c : Field) (v : ℕ) where
   next-item row e q = simp (ne-eqb (c .left) 0 q) (rw e)
 
   module _ (k : ℕ) (is : k ≡ kind (c .row)) where
-    pub next-counted : (d : Field) → d ≡ afterCount c v → k ≡ 1 → d ≡ nextField c v
+    pub next-counted : (d : Field) → d ≡ afterCount c v → k ≡ countKind → d ≡ nextField c v
     unfolding nextField
-    next-counted d e q = let r : kind (c .row) ≡ 1 = omega arith in e ∙ simp (eq-eqb (kind (c .row)) 1 r)
+    next-counted d e q = let r : kind (c .row) ≡ countKind = omega arith in e ∙ simp (eq-eqb (kind (c .row)) countKind r)
 
-    module _ (n : k ≡ 1 → ⊥) where
-      not-count : eqb (kind (c .row)) 1 ≡ false
-      not-count = ne-eqb (kind (c .row)) 1 (λ q. n (is ∙ q))
+    module _ (n : k ≡ countKind → ⊥) where
+      not-count : eqb (kind (c .row)) countKind ≡ false
+      not-count = ne-eqb (kind (c .row)) countKind (λ q. n (is ∙ q))
 
-      pub next-ended : (d : Field) → d ≡ afterItem c → k ≡ 4 → d ≡ nextField c v
+      pub next-ended : (d : Field) → d ≡ afterItem c → k ≡ lastKind → d ≡ nextField c v
       unfolding nextField
-      next-ended d e q = let r : kind (c .row) ≡ 4 = omega arith in e ∙ simp (not-count, eq-eqb (kind (c .row)) 4 r)
+      next-ended d e q = let r : kind (c .row) ≡ lastKind = omega arith in e ∙ simp (not-count, eq-eqb (kind (c .row)) lastKind r)
 
-      pub next-within : (k ≡ 4 → ⊥) → record { row = c .row + 1; place = c .place + 1; left = c .left } ≡ nextField c v
+      pub next-within : (k ≡ lastKind → ⊥) → record { row = c .row + 1; place = c .place + 1; left = c .left } ≡ nextField c v
       unfolding nextField
-      next-within q = simp (not-count, ne-eqb (kind (c .row)) 4 (λ r. q (is ∙ r)))
+      next-within q = simp (not-count, ne-eqb (kind (c .row)) lastKind (λ r. q (is ∙ r)))
 
-    pub starts : (at start : ℕ) → k ≡ 2 → at ≡ itemStart c at start
+    pub starts : (at start : ℕ) → k ≡ firstKind → at ≡ itemStart c at start
     unfolding itemStart
-    starts at start q = let r : kind (c .row) ≡ 2 = omega arith in simp (eq-eqb (kind (c .row)) 2 r)
+    starts at start q = let r : kind (c .row) ≡ firstKind = omega arith in simp (eq-eqb (kind (c .row)) firstKind r)
 
-    pub goes-on : (at start : ℕ) → (k ≡ 2 → ⊥) → start ≡ itemStart c at start
+    pub goes-on : (at start : ℕ) → (k ≡ firstKind → ⊥) → start ≡ itemStart c at start
     unfolding itemStart
-    goes-on at start q = simp (ne-eqb (kind (c .row)) 2 (λ r. q (is ∙ r)))
+    goes-on at start q = simp (ne-eqb (kind (c .row)) firstKind (λ r. q (is ∙ r)))
 
 module _ (l : List ℕ) where
   module _ (row v over : ℕ) (is : over ≡ countOver row) where
@@ -71,37 +73,31 @@ module _ (l : List ℕ) where
     under-count q = simp (ne-eqb (countOver row) 0 (λ r. q (is ∙ r))) (ap (λ (k : ℕ). ltb v (getD l k 0)) is)
 
   module _ (c : Field) (v : ℕ) where
-    pub after-header : c .row ≡ 13 → leb (getD l (c .place - 1) 0) v ≡ fromHeader l c v
+    pub after-header : c .row ≡ rows.last → leb (getD l (c .place - (places.last - places.header)) 0) v ≡ fromHeader l c v
     unfolding fromHeader
-    after-header q = simp (eq-eqb (c .row) 13 q)
+    after-header q = simp (eq-eqb (c .row) rows.last q)
 
-    pub any-header : (c .row ≡ 13 → ⊥) → true ≡ fromHeader l c v
+    pub any-header : (c .row ≡ rows.last → ⊥) → true ≡ fromHeader l c v
     unfolding fromHeader
-    any-header q = simp (ne-eqb (c .row) 13 q)
+    any-header q = simp (ne-eqb (c .row) rows.last q)
 
-    pub too-low : (lo : ℕ) → lo ≡ least (c .row) → v < lo → false ≡ inRange l c v
+    pub too-low : v < least (c .row) → false ≡ inRange l c v
     unfolding inRange
-    too-low lo e h = let k : v < least (c .row) = omega arith in simp (lt-leb (least (c .row)) v k)
+    too-low h = simp (lt-leb (least (c .row)) v h)
 
-    module _ (lo : ℕ) (is-lo : lo ≡ least (c .row)) (low : lo ≤ v) where
-      low-enough : leb (least (c .row)) v ≡ true
-      low-enough = le-leb (least (c .row)) v (omega arith)
-
-      pub too-high : (hi : ℕ) → hi ≡ greatest (c .row) → hi < v → false ≡ inRange l c v
+    module _ (low : least (c .row) ≤ v) where
+      pub too-high : greatest (c .row) < v → false ≡ inRange l c v
       unfolding inRange
-      too-high hi e h = simp (low-enough, lt-leb v (greatest (c .row)) (omega arith))
+      too-high h = simp (le-leb (least (c .row)) v low, lt-leb v (greatest (c .row)) h)
 
-      module _ (hi : ℕ) (is-hi : hi ≡ greatest (c .row)) (high : v ≤ hi) where
-        high-enough : leb v (greatest (c .row)) ≡ true
-        high-enough = le-leb v (greatest (c .row)) (omega arith)
-
-        pub past-count : (b : Bool) → b ≡ belowCount l (c .row) v → b ≡ false → false ≡ inRange l c v
+      module _ (high : v ≤ greatest (c .row)) where
+        pub past-count : belowCount l (c .row) v ≡ false → false ≡ inRange l c v
         unfolding inRange
-        past-count b e q = simp (low-enough, high-enough, sym e ∙ q)
+        past-count e = simp (le-leb (least (c .row)) v low, le-leb v (greatest (c .row)) high, e)
 
-        pub within : (b d : Bool) → b ≡ belowCount l (c .row) v → b ≡ true → d ≡ fromHeader l c v → d ≡ inRange l c v
+        pub within : belowCount l (c .row) v ≡ true → fromHeader l c v ≡ inRange l c v
         unfolding inRange
-        within b d e q f = f ∙ simp (low-enough, high-enough, sym e ∙ q)
+        within e = simp (le-leb (least (c .row)) v low, le-leb v (greatest (c .row)) high, e)
 
 module _ (from to from′ to′ : ℕ) where
   pub higher : from < from′ → true ≡ edgeBefore from to from′ to′
@@ -126,29 +122,29 @@ module _ (l : List ℕ) (c : Field) (b : ℕ) (is : b ≡ base (c .row)) where
     later-item : eqb (c .place) (base (c .row)) ≡ false
     later-item = ne-eqb (c .place) (base (c .row)) (λ q. n (q ∙ sym is))
 
-    pub edge-ascends : c .row ≡ 10 → (t : Bool) →
-        t ≡ edgeBefore (getD l (c .place - 3) 0) (getD l (c .place - 2) 0) (getD l (c .place - 1) 0) (getD l (c .place) 0) → t ≡ ascends l c
+    pub edge-ascends : c .row ≡ rows.to → (t : Bool) →
+        t ≡ edgeBefore (getD l (c .place - (places.edgeWidth + edgeSpan)) 0) (getD l (c .place - places.edgeWidth) 0) (getD l (c .place - edgeSpan) 0) (getD l (c .place) 0) → t ≡ ascends l c
     unfolding ascends
-    edge-ascends q t e = e ∙ simp (later-item, eq-eqb (c .row) 10 q)
+    edge-ascends q t e = e ∙ simp (later-item, eq-eqb (c .row) rows.to q)
 
-    module _ (m : c .row ≡ 10 → ⊥) where
-      pub loop-ascends : c .row ≡ 14 → ltb (getD l (c .place - 5) 0) (getD l (c .place - 2) 0) ≡ ascends l c
+    module _ (m : c .row ≡ rows.to → ⊥) where
+      pub loop-ascends : c .row ≡ rows.bound → ltb (getD l (c .place - (places.loopWidth + loopSpan)) 0) (getD l (c .place - loopSpan) 0) ≡ ascends l c
       unfolding ascends
-      loop-ascends q = simp (later-item, ne-eqb (c .row) 10 m, eq-eqb (c .row) 14 q)
+      loop-ascends q = simp (later-item, ne-eqb (c .row) rows.to m, eq-eqb (c .row) rows.bound q)
 
-      pub no-order : (c .row ≡ 14 → ⊥) → true ≡ ascends l c
+      pub no-order : (c .row ≡ rows.bound → ⊥) → true ≡ ascends l c
       unfolding ascends
-      no-order q = simp (later-item, ne-eqb (c .row) 10 m, ne-eqb (c .row) 14 q)
+      no-order q = simp (later-item, ne-eqb (c .row) rows.to m, ne-eqb (c .row) rows.bound q)
 
 -- An item's last number has the numbers before it that the order looks at.
-pub edge-place : (row place : ℕ) → base row ≤ place → row ≡ 10 → 3 ≤ place
+pub edge-place : (row place : ℕ) → base row ≤ place → row ≡ rows.to → places.edgeWidth + edgeSpan ≤ place
 unfolding bases
-edge-place row place h q = let e : base row ≡ 326 = rw q in omega arith
+edge-place row place h q = let e : base row ≡ places.to = rw q in omega arith
 
-pub loop-place : (row place : ℕ) → base row ≤ place → row ≡ 14 → 5 ≤ place
+pub loop-place : (row place : ℕ) → base row ≤ place → row ≡ rows.bound → places.loopWidth + loopSpan ≤ place
 unfolding bases
-loop-place row place h q = let e : base row ≡ 1352 = rw q in omega arith
+loop-place row place h q = let e : base row ≡ places.bound = rw q in omega arith
 
-pub last-place : (row place : ℕ) → base row ≤ place → row ≡ 13 → 1 ≤ place
+pub last-place : (row place : ℕ) → base row ≤ place → row ≡ rows.last → places.last - places.header ≤ place
 unfolding bases
-last-place row place h q = let e : base row ≡ 1351 = rw q in omega arith
+last-place row place h q = let e : base row ≡ places.last = rw q in omega arith

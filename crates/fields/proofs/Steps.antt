@@ -11,12 +11,13 @@ use Rattle.model.specs.Table.{limits, bases, kinds, jumps, least, greatest, jum
 use Rattle.model.specs.File.{rowStart, afterCount, afterItem, nextField, inRange}
 use Rattle.model.proofs.Cases.{by-cond, and-left, and-right}
 use Rattle.fields.specs.Valid.{Placed, Valid, field, edition, scratchpad, functions, size, load, vertices, function, cost, edges, from, to, loops, header, last, bound, end}
+use Rattle.model.specs.Rows as rows
 
 -- A valid field at an equal place, with as many items left.
 at : {row place place′ left left′ : ℕ} → Valid (field row place left) → place ≡ place′ → left ≡ left′ → Valid (field row place′ left′)
 at {row} {place} {place′} {left} {left′} f p q = rw (← p, ← q) f
 
-pub placed : {c : Field} → Valid c → c .row < 15 → Placed c
+pub placed : {c : Field} → Valid c → c .row < rows.end → Placed c
 unfolding bases
 placed edition h = record { row = h; place = omega arith; above = omega arith }
 placed scratchpad h = record { row = h; place = omega arith; above = omega arith }
@@ -51,7 +52,7 @@ pub record Later (c d : Field) : Type 0 where
   pub valid : Valid d
   pub higher : c .place < d .place
 
-pub next-later : {c : Field} → Valid c → (v : ℕ) → c .row < 15 → v ≤ greatest (c .row) → Later c (nextField c v)
+pub next-later : {c : Field} → Valid c → (v : ℕ) → c .row < rows.end → v ≤ greatest (c .row) → Later c (nextField c v)
 unfolding nextField limits bases kinds jumps
 next-later edition v h g = record { valid = scratchpad; higher = omega arith }
 next-later scratchpad v h g = record { valid = functions; higher = omega arith }
@@ -85,3 +86,7 @@ in-row l c v e =
     let low = and-left (leb (least (c .row)) v) _ e in
     let rest = and-right (leb (least (c .row)) v) _ e in
     (leb-true (least (c .row)) v low, leb-true v (greatest (c .row)) (and-left (leb v (greatest (c .row))) _ rest))
+
+-- The field after a number in range comes later.
+pub ranged-later : {c d : Field} → Valid c → c .row < rows.end → (l : List ℕ) (v : ℕ) → inRange l c v ≡ true → d ≡ nextField c v → Later c d
+ranged-later {c} valid h l v e q = rw q (next-later valid v h (in-row l c v e .1))

@@ -2,30 +2,32 @@
 use Prim.Native.Nat.{ℕ, _+_, _*_, _≤_, _<_}
 use Rattle.model.specs.declared.Field.{Field}
 use Rattle.model.specs.Table.{base}
+use Rattle.model.specs.Places as places
+use Rattle.model.specs.Rows as rows
 
 abbrev pub field : ℕ → ℕ → ℕ → Field
 field row place left = record { row = row; place = place; left = left }
 
 pub data Valid : Field → Type 0 where
-  edition : Valid (field 0 0 0)
-  scratchpad : Valid (field 1 1 0)
-  functions : Valid (field 2 2 0)
-  size : (i left : ℕ) → i + left < 32 → Valid (field 3 (3 + 2 * i) left)
-  load : (i left : ℕ) → i + left < 32 → Valid (field 4 (4 + 2 * i) left)
-  vertices : Valid (field 5 67 0)
-  function : (i left : ℕ) → i + left < 128 → Valid (field 6 (68 + 2 * i) left)
-  cost : (i left : ℕ) → i + left < 128 → Valid (field 7 (69 + 2 * i) left)
-  edges : Valid (field 8 324 0)
-  from : (i left : ℕ) → i + left < 512 → Valid (field 9 (325 + 2 * i) left)
-  to : (i left : ℕ) → i + left < 512 → Valid (field 10 (326 + 2 * i) left)
-  loops : Valid (field 11 1349 0)
-  header : (i left : ℕ) → i + left < 32 → Valid (field 12 (1350 + 3 * i) left)
-  last : (i left : ℕ) → i + left < 32 → Valid (field 13 (1351 + 3 * i) left)
-  bound : (i left : ℕ) → i + left < 32 → Valid (field 14 (1352 + 3 * i) left)
-  end : Valid (field 15 1446 0)
+  edition : Valid (field rows.edition places.edition 0)
+  scratchpad : Valid (field rows.scratchpad places.scratchpad 0)
+  functions : Valid (field rows.functionCount places.functionCount 0)
+  size : (i left : ℕ) → i + left < places.mostFunctions → Valid (field rows.size (places.size + places.functionWidth * i) left)
+  load : (i left : ℕ) → i + left < places.mostFunctions → Valid (field rows.load (places.load + places.functionWidth * i) left)
+  vertices : Valid (field rows.vertexCount places.vertexCount 0)
+  function : (i left : ℕ) → i + left < places.mostVertices → Valid (field rows.function (places.function + places.vertexWidth * i) left)
+  cost : (i left : ℕ) → i + left < places.mostVertices → Valid (field rows.cost (places.cost + places.vertexWidth * i) left)
+  edges : Valid (field rows.edgeCount places.edgeCount 0)
+  from : (i left : ℕ) → i + left < places.mostEdges → Valid (field rows.from (places.from + places.edgeWidth * i) left)
+  to : (i left : ℕ) → i + left < places.mostEdges → Valid (field rows.to (places.to + places.edgeWidth * i) left)
+  loops : Valid (field rows.loopCount places.loopCount 0)
+  header : (i left : ℕ) → i + left < places.mostLoops → Valid (field rows.header (places.header + places.loopWidth * i) left)
+  last : (i left : ℕ) → i + left < places.mostLoops → Valid (field rows.last (places.last + places.loopWidth * i) left)
+  bound : (i left : ℕ) → i + left < places.mostLoops → Valid (field rows.bound (places.bound + places.loopWidth * i) left)
+  end : Valid (field rows.end places.end 0)
 
 -- What the functions on a field ask of it.
 pub record Placed (c : Field) : Type 0 where
-  pub row : c .row < 15
-  pub place : c .place < 1446
+  pub row : c .row < rows.end
+  pub place : c .place < places.end
   pub above : base (c .row) ≤ c .place

@@ -1,10 +1,21 @@
 // The field table of the problem file, and going through its fields in order. Reading and writing alike use these.
 use model::Field;
+use model::Numbers;
+use model::limits::MOST_BYTES;
+use model::limits::MOST_CYCLES;
+use model::limits::MOST_VISITS;
+use model::places;
+use model::places::MOST_EDGES;
+use model::places::MOST_FUNCTIONS;
+use model::places::MOST_LOOPS;
+use model::places::MOST_VERTICES;
+use model::rows;
 ghost use mathlib.Core.Path.{_≡_};
-ghost use Prim.Native.Nat.{_<_};
+ghost use Prim.Native.Nat.{_+_, _<_};
 ghost use lib.ListN.{getD};
 ghost use Rattle.fields.specs.Valid.{Placed};
-ghost use Rattle.fields.specs.Rows.{entry, rows};
+ghost use Rattle.fields.specs.Rows.{columns, entry, entries};
+ghost use Rattle.model.specs.Rows;
 ghost use Rattle.model.specs.File.{nextField, afterCount, afterItem, inRange, belowCount, fromHeader, edgeBefore, itemStart};
 
 // The columns of the field table. First the least and the greatest value of a row.
@@ -15,54 +26,91 @@ const GREATEST: usize = 1;
 // The place of the row's first number.
 const BASE: usize = 2;
 
-// 0 a number by itself, 1 the count of a list, 2 the first number of an item, 3 one between, 4 the last.
+// What the row is, one of the kinds below.
 const KIND: usize = 3;
 
 // Where the count of an empty list leads, and an item's last number where another item follows.
 const JUMP: usize = 4;
 
 // The place of the count that the row's numbers stay below, or 0.
-const COUNT: usize = 5;
+const UNDER: usize = 5;
+
+const COLUMNS: usize = UNDER + 1;
+
+// The kinds: a number by itself, the count of a list, or of an item the first number, one between or the last.
+const ALONE: usize = 0;
+
+const COUNT: usize = 1;
+
+const FIRST: usize = 2;
+
+const BETWEEN: usize = 3;
+
+const LAST: usize = 4;
+
+// Where the lists' counts stand.
+const FUNCTIONS: usize = places::FUNCTION_COUNT;
+
+const VERTICES: usize = places::VERTEX_COUNT;
+
+const EDGES: usize = places::EDGE_COUNT;
+
+const LOOPS: usize = places::LOOP_COUNT;
 
 // The rows, in file order, and the end of the file.
-const TABLE: [[usize; 6]; 16] = [
-    [1, 1, 0, 0, 0, 0], // edition
-    [1, 16777215, 1, 0, 0, 0], // scratchpad size
-    [1, 32, 2, 1, 5, 0], // number of functions
-    [1, 16777215, 3, 2, 0, 0], // size
-    [0, 16777215, 4, 4, 3, 0], // load cost
-    [1, 128, 67, 1, 8, 0], // number of vertices
-    [0, 31, 68, 2, 0, 2], // function
-    [0, 16777215, 69, 4, 6, 0], // own cost
-    [0, 512, 324, 1, 11, 0], // number of edges
-    [0, 127, 325, 2, 0, 67], // from
-    [0, 127, 326, 4, 9, 67], // to
-    [0, 32, 1349, 1, 15, 0], // number of loops
-    [0, 127, 1350, 2, 0, 67], // header
-    [0, 127, 1351, 3, 0, 67], // last
-    [1, 65535, 1352, 4, 12, 0], // bound
-    [0, 0, 1446, 0, 0, 0], // the end
+pub type Table = [[usize; COLUMNS]; rows::END + 1];
+
+const TABLE: Table = [
+    // least, greatest, base, kind, jump, under
+    [1, 1, places::EDITION, ALONE, 0, 0],
+    [1, MOST_BYTES, places::SCRATCHPAD, ALONE, 0, 0],
+    [1, MOST_FUNCTIONS, FUNCTIONS, COUNT, rows::VERTEX_COUNT, 0],
+    [1, MOST_BYTES, places::SIZE, FIRST, 0, 0],
+    [0, MOST_CYCLES, places::LOAD, LAST, rows::SIZE, 0],
+    [1, MOST_VERTICES, VERTICES, COUNT, rows::EDGE_COUNT, 0],
+    [0, MOST_FUNCTIONS - 1, places::FUNCTION, FIRST, 0, FUNCTIONS],
+    [0, MOST_CYCLES, places::COST, LAST, rows::FUNCTION, 0],
+    [0, MOST_EDGES, EDGES, COUNT, rows::LOOP_COUNT, 0],
+    [0, MOST_VERTICES - 1, places::FROM, FIRST, 0, VERTICES],
+    [0, MOST_VERTICES - 1, places::TO, LAST, rows::FROM, VERTICES],
+    [0, MOST_LOOPS, LOOPS, COUNT, rows::END, 0],
+    [0, MOST_VERTICES - 1, places::HEADER, FIRST, 0, VERTICES],
+    [0, MOST_VERTICES - 1, places::LAST, BETWEEN, 0, VERTICES],
+    [1, MOST_VISITS, places::BOUND, LAST, rows::HEADER, 0],
+    [0, 0, places::END, ALONE, 0, 0],
 ];
 
+// How far behind an item's first number its last stands, and behind the first number of the item before.
+pub const EDGE_SPAN: usize = places::TO - places::FROM;
+
+const EDGE_BEFORE_SPAN: usize = places::EDGE_WIDTH + EDGE_SPAN;
+
+const LOOP_SPAN: usize = places::BOUND - places::HEADER;
+
+const LOOP_BEFORE_SPAN: usize = places::LOOP_WIDTH + LOOP_SPAN;
+
+// How far behind a loop's header its last vertex stands.
+const LAST_SPAN: usize = places::LAST - places::HEADER;
+
 // The table in memory: who goes through the fields has it made once, and lends it to every step.
-pub fn table() -> [[usize; 6]; 16]
-    ensures { λ r. ⌜ r ≡ rows ⌝ }
+pub fn table() -> Table
+    ensures { λ r. ⌜ r ≡ entries ⌝ }
 {
     TABLE
 }
 
-fn look_up(table: &[[usize; 6]; 16], row: usize, column: usize) -> usize
-    requires { ⌜ now table ≡ rows ⌝ }
-    requires { ⌜ row < 16 ⌝ }
-    requires { ⌜ column < 6 ⌝ }
+fn look_up(table: &Table, row: usize, column: usize) -> usize
+    requires { ⌜ now table ≡ entries ⌝ }
+    requires { ⌜ row < Rows.end + 1 ⌝ }
+    requires { ⌜ column < columns ⌝ }
     ensures { λ r. ⌜ r ≡ getD (entry row) column 0 ⌝ }
 {
     table[row][column]
 }
 
 // The field after a list's count: its first item's first number, or where an empty list leads.
-fn after_count(table: &[[usize; 6]; 16], c: Field, v: u64) -> Field
-    requires { ⌜ now table ≡ rows ⌝ }
+fn after_count(table: &Table, c: Field, v: u64) -> Field
+    requires { ⌜ now table ≡ entries ⌝ }
     requires { ⌜ Placed c ⌝ }
     ensures { λ r. ⌜ r ≡ afterCount c v ⌝ }
 {
@@ -82,8 +130,8 @@ fn after_count(table: &[[usize; 6]; 16], c: Field, v: u64) -> Field
 }
 
 // The field after an item's last number: the next item's first, or what follows the list.
-fn after_item(table: &[[usize; 6]; 16], c: Field) -> Field
-    requires { ⌜ now table ≡ rows ⌝ }
+fn after_item(table: &Table, c: Field) -> Field
+    requires { ⌜ now table ≡ entries ⌝ }
     requires { ⌜ Placed c ⌝ }
     ensures { λ r. ⌜ r ≡ afterItem c ⌝ }
 {
@@ -103,16 +151,16 @@ fn after_item(table: &[[usize; 6]; 16], c: Field) -> Field
 }
 
 // The field after c, at which v stands.
-pub fn next_field(table: &[[usize; 6]; 16], c: Field, v: u64) -> Field
-    requires { ⌜ now table ≡ rows ⌝ }
+pub fn next_field(table: &Table, c: Field, v: u64) -> Field
+    requires { ⌜ now table ≡ entries ⌝ }
     requires { ⌜ Placed c ⌝ }
     ensures { λ r. ⌜ r ≡ nextField c v ⌝ }
 {
     let kind = look_up(table, c.row, KIND);
-    if kind == 1 {
+    if kind == COUNT {
         return after_count(table, c, v);
     }
-    if kind == 4 {
+    if kind == LAST {
         return after_item(table, c);
     }
     Field {
@@ -123,33 +171,33 @@ pub fn next_field(table: &[[usize; 6]; 16], c: Field, v: u64) -> Field
 }
 
 // Where a count read earlier narrows the row: v stays below it.
-fn below_count(table: &[[usize; 6]; 16], l: &[u64; 1446], row: usize, v: u64) -> bool
-    requires { ⌜ now table ≡ rows ⌝ }
-    requires { ⌜ row < 15 ⌝ }
+fn below_count(table: &Table, l: &Numbers, row: usize, v: u64) -> bool
+    requires { ⌜ now table ≡ entries ⌝ }
+    requires { ⌜ row < Rows.end ⌝ }
     ensures { λ r. ⌜ r ≡ belowCount (now (l .entry)) row v ⌝ }
 {
-    let over = look_up(table, row, COUNT);
+    let over = look_up(table, row, UNDER);
     if over == 0 {
         return true;
     }
     v < l[over]
 }
 
-// A loop's last vertex is not below its header, the number just before it.
-fn from_header(l: &[u64; 1446], c: Field, v: u64) -> bool
+// A loop's last vertex is not below its header.
+fn from_header(l: &Numbers, c: Field, v: u64) -> bool
     requires { ⌜ Placed c ⌝ }
     ensures { λ r. ⌜ r ≡ fromHeader (now (l .entry)) c v ⌝ }
 {
-    if c.row == 13 {
-        let before = c.place - 1;
-        return l[before] <= v;
+    if c.row == rows::LAST {
+        let header = c.place - LAST_SPAN;
+        return l[header] <= v;
     }
     true
 }
 
 // Whether v may stand at c, where l has the numbers before it.
-pub fn in_range(table: &[[usize; 6]; 16], l: &[u64; 1446], c: Field, v: u64) -> bool
-    requires { ⌜ now table ≡ rows ⌝ }
+pub fn in_range(table: &Table, l: &Numbers, c: Field, v: u64) -> bool
+    requires { ⌜ now table ≡ entries ⌝ }
     requires { ⌜ Placed c ⌝ }
     ensures { λ r. ⌜ r ≡ inRange (now (l .entry)) c v ⌝ }
 {
@@ -179,8 +227,8 @@ pub fn edge_before(from: u64, to: u64, from2: u64, to2: u64) -> bool
 }
 
 // Whether the item whose last number stands at c may follow the item before it.
-pub fn ascends(table: &[[usize; 6]; 16], l: &[u64; 1446], c: Field) -> bool
-    requires { ⌜ now table ≡ rows ⌝ }
+pub fn ascends(table: &Table, l: &Numbers, c: Field) -> bool
+    requires { ⌜ now table ≡ entries ⌝ }
     requires { ⌜ Placed c ⌝ }
     ensures { λ r. ⌜ r ≡ Rattle.model.specs.File.ascends (now (l .entry)) c ⌝ }
 {
@@ -188,22 +236,27 @@ pub fn ascends(table: &[[usize; 6]; 16], l: &[u64; 1446], c: Field) -> bool
     if k == look_up(table, c.row, BASE) {
         return true;
     }
-    if c.row == 10 {
-        return edge_before(l[k - 3], l[k - 2], l[k - 1], l[k]);
+    if c.row == rows::TO {
+        return edge_before(
+            l[k - EDGE_BEFORE_SPAN],
+            l[k - places::EDGE_WIDTH],
+            l[k - EDGE_SPAN],
+            l[k],
+        );
     }
-    if c.row == 14 {
-        return l[k - 5] < l[k - 2];
+    if c.row == rows::BOUND {
+        return l[k - LOOP_BEFORE_SPAN] < l[k - LOOP_SPAN];
     }
     true
 }
 
 // Where the item that c belongs to starts, if c stands at a position and `start` was said of the field before.
-pub fn item_start(table: &[[usize; 6]; 16], c: Field, at: usize, start: usize) -> usize
-    requires { ⌜ now table ≡ rows ⌝ }
-    requires { ⌜ c .row < 15 ⌝ }
+pub fn item_start(table: &Table, c: Field, at: usize, start: usize) -> usize
+    requires { ⌜ now table ≡ entries ⌝ }
+    requires { ⌜ c .row < Rows.end ⌝ }
     ensures { λ r. ⌜ r ≡ itemStart c at start ⌝ }
 {
-    if look_up(table, c.row, KIND) == 2 {
+    if look_up(table, c.row, KIND) == FIRST {
         return at;
     }
     start

@@ -1,3 +1,3 @@
-pub mod Counts
+pub mod NumbersRead
 pub mod Opened
 pub mod Stages

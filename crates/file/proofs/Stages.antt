@@ -2,64 +2,67 @@
 use Prim.Native.Nat.{ℕ, _≤_, _<_}
 use mathlib.Core.Path.{_≡_, sym, ap, _∙_}
 use mathlib.Core.List.{List}
-use lib.ListN.{length, getD}
+use lib.ListN.{length}
 use lib.Seq.{sets}
 use borrow.Author.Tests.{lt-ltb, le-ltb}
 use Rattle.model.specs.declared.Refusal.{Refusal}
 use Rattle.model.specs.declared.Refusal.the-variants as refusal
 use Rattle.model.specs.declared.Verdict.{Verdict}
 use Rattle.model.specs.declared.Verdict.the-variants as verdict
-use Rattle.model.specs.declared.Fields.{Fields}
-use Rattle.model.specs.declared.Fields.the-variants as fields
+use Rattle.model.specs.declared.FieldsAnswer.{FieldsAnswer}
+use Rattle.model.specs.declared.FieldsAnswer.the-variants as fields
 use Rattle.model.specs.declared.Problem.{Problem}
+use Rattle.model.specs.declared.ReadAnswer.the-variants as read
 use Rattle.model.specs.declared.WriteAnswer.{WriteAnswer}
 use Rattle.model.specs.declared.WriteAnswer.the-variants as write
-use Rattle.model.specs.Zero.{zeroProblem}
 use Rattle.model.specs.Numbers.{problemOf}
 use Rattle.model.specs.File.{Scan, scanned, readFields, checkFields, fileBytes}
 use Rattle.model.specs.Graph.{judgeGraph}
-use Rattle.model.specs.Operations.{unread, readVerdict, readRest, readFile, afterGraph, afterFields, writeChecked, writeProblem, afterWrite, writtenBuffer}
+use Rattle.model.specs.Operations.{readVerdict, readRest, readFile, afterGraph, afterFields, writeChecked, writeProblem, afterWrite, writtenBuffer}
+use Rattle.model.specs.Verdicts.{asVerdict}
 use Rattle.model.proofs.Answers.{refused-not-accepted}
 use Rattle.numbers.specs.Numbered.{Numbered}
 use Rattle.scan.specs.Answers.{Fits}
-use Rattle.file.proofs.Counts.{size-read, checked-read}
-use Rattle.file.proofs.Opened.{good, checks-problem}
-use Rattle.file.specs.Steps.{refusalIn, NumbersRead, checkNumbers}
+use Rattle.file.proofs.NumbersRead.{size-read, checked-read}
+use Rattle.file.proofs.Opened.{good, checks-problem, refused-as}
+use Rattle.file.specs.Steps.{NumbersRead, checkNumbers}
 
 -- Reading, where the fields left the answer f and the numbers l.
-module _ (s : List ℕ) (f : Fields) (l : List ℕ) (is : scanned f l ≡ readFields s) where
-  rest : (g : Fields) → f ≡ g → readRest (length s) g l ≡ readFile s
+module _ (s : List ℕ) (f : FieldsAnswer) (l : List ℕ) (is : scanned f l ≡ readFields s) where
+  rest : (g : FieldsAnswer) → f ≡ g → readRest (length s) g l ≡ readFile s
   unfolding readFile
-  rest g e = ap (λ (x : Fields). readRest (length s) x l) (sym e) ∙ ap (λ (x : Scan). readRest (length s) (x .answer) (x .numbers)) is
+  rest g e = ap (λ (x : FieldsAnswer). readRest (length s) x l) (sym e) ∙ ap (λ (x : Scan). readRest (length s) (x .answer) (x .numbers)) is
 
-  pub read-refused : (r x : Refusal) → f ≡ fields.Refused r → x ≡ refusalIn f → NumbersRead s l (verdict.Refused x)
-  unfolding refusalIn
-  read-refused r x e q = record { answer = ap unread (q ∙ ap refusalIn e) ∙ rest _ e; checked = refused-not-accepted }
+  pub read-refused : (r : Refusal) → f ≡ fields.Refused r → (v : Verdict) → v ≡ asVerdict f → NumbersRead s l v
+  read-refused r e v told =
+      let is-refused : v ≡ verdict.Refused r = told ∙ ap asVerdict e in
+      rw is-refused (record { answer = rest _ e; checked = refused-not-accepted })
 
   module _ (end : ℕ) (e : f ≡ fields.Done end) where
     pub left-over : end < length s → NumbersRead s l (verdict.Refused (refusal.LeftOver end))
     left-over h = record { answer = simp (lt-ltb end (length s) h) at (rest _ e); checked = refused-not-accepted }
 
-    pub graph-judged : ((i : ℕ) → getD s i 0 < 256) → length s ≤ end → (v : Verdict) → v ≡ judgeGraph (problemOf l) → NumbersRead s l v
-    graph-judged byte h v judged =
+    pub graph-judged : length s ≤ end → (v : Verdict) → v ≡ judgeGraph (problemOf l) → NumbersRead s l v
+    graph-judged h v judged =
+        let passed = checked-read s f l is end e in
         record {
           answer = ap (λ (x : Verdict). readVerdict x (problemOf l)) judged ∙ simp (le-ltb end (length s) h) at (rest _ e);
-          checked = λ good. record { size = size-read s byte f l is end e; need = end; fields = checked-read s byte f l is end e; graph = sym judged ∙ good };
+          checked = λ good. record { size = size-read s f l is end e; need = passed .0; fields = passed .1; graph = sym judged ∙ good };
         }
 
 -- Read's answer, made of the numbers.
 module _ (s l : List ℕ) (v : Verdict) (r : NumbersRead s l v) where
-  pub no-problem : (f : Refusal) → v ≡ verdict.Refused f → (p : Problem) → p ≡ zeroProblem → record { verdict = v; problem = p } ≡ readFile s
-  no-problem f e p z = rw (e, z) (ap (λ (x : Verdict). readVerdict x (problemOf l)) (sym e) ∙ r .answer)
+  pub no-problem : (f : Refusal) → v ≡ verdict.Refused f → read.Refused f ≡ readFile s
+  no-problem f e = ap (λ (w : Verdict). readVerdict w (problemOf l)) (sym e) ∙ r .answer
 
-  pub whole-problem : v ≡ verdict.Accepted → (p : Problem) → p ≡ problemOf l → record { verdict = verdict.Accepted; problem = p } ≡ readFile s
-  whole-problem e p z = rw z (ap (λ (x : Verdict). readVerdict x (problemOf l)) (sym e) ∙ r .answer)
+  pub whole-problem : v ≡ verdict.Accepted → (p : Problem) → p ≡ problemOf l → read.Accepted p ≡ readFile s
+  whole-problem e p z = ap read.Accepted z ∙ ap (λ (x : Verdict). readVerdict x (problemOf l)) (sym e) ∙ r .answer
 
 -- A problem's checks, where the fields gave the answer f.
-module _ (l : List ℕ) (f : Fields) (is : f ≡ checkFields l) where
-  checks : (g : Fields) → f ≡ g → afterFields g (problemOf l) ≡ checkNumbers l
+module _ (l : List ℕ) (f : FieldsAnswer) (is : f ≡ checkFields l) where
+  checks : (g : FieldsAnswer) → f ≡ g → afterFields g (problemOf l) ≡ checkNumbers l
   unfolding checkNumbers
-  checks g e = ap (λ (x : Fields). afterFields x (problemOf l)) (sym e ∙ is)
+  checks g e = ap (λ (x : FieldsAnswer). afterFields x (problemOf l)) (sym e ∙ is)
 
   pub bad-fields : (r : Refusal) → f ≡ fields.Refused r → f ≡ checkNumbers l
   bad-fields r e = e ∙ checks _ e
@@ -68,25 +71,24 @@ module _ (l : List ℕ) (f : Fields) (is : f ≡ checkFields l) where
   after-graph need e v judged w q = ap (λ (x : Verdict). afterGraph x need) (sym q ∙ judged) ∙ checks _ e
 
 -- Write, where the problem's numbers are l, its checks gave f, and the buffer holds buf.
-module _ (p : Problem) (l buf : List ℕ) (numbered : Numbered p l) (f : Fields) (is : f ≡ checkNumbers l) where
-  writes : (g : Fields) → f ≡ g → writeChecked g (length buf) ≡ writeProblem p (length buf)
+module _ (p : Problem) (l buf : List ℕ) (numbered : Numbered p l) (f : FieldsAnswer) (is : f ≡ checkNumbers l) where
+  writes : (g : FieldsAnswer) → f ≡ g → writeChecked g (length buf) ≡ writeProblem p (length buf)
   unfolding writeProblem
-  writes g e = ap (λ (x : Fields). writeChecked x (length buf)) (sym e ∙ checks-problem p l numbered f is)
+  writes g e = ap (λ (x : FieldsAnswer). writeChecked x (length buf)) (sym e ∙ checks-problem p l numbered f is)
 
   holds : (a : WriteAnswer) → a ≡ writeProblem p (length buf) → afterWrite a p buf ≡ writtenBuffer p buf
   holds a e = ap (λ (x : WriteAnswer). afterWrite x p buf) e
 
-  pub not-written : (r x : Refusal) → f ≡ fields.Refused r → x ≡ refusalIn f →
+  pub not-written : (x : Refusal) → asVerdict f ≡ verdict.Refused x →
       (write.Refused x ≡ writeProblem p (length buf)) × (buf ≡ writtenBuffer p buf)
-  unfolding refusalIn
-  not-written r x e q =
-      let a : write.Refused x ≡ writeProblem p (length buf) = ap write.Refused (q ∙ ap refusalIn e) ∙ writes _ e in
+  not-written x e =
+      let a : write.Refused x ≡ writeProblem p (length buf) = writes _ (refused-as f x e) in
       (a, holds _ a)
 
   module _ (need : ℕ) (e : f ≡ fields.Done need) where
-    pub too-short : length buf < need → (write.Refused (refusal.ShortBuffer need) ≡ writeProblem p (length buf)) × (buf ≡ writtenBuffer p buf)
+    pub too-short : length buf < need → (write.Refused (refusal.BufferTooShort need) ≡ writeProblem p (length buf)) × (buf ≡ writtenBuffer p buf)
     too-short h =
-        let a : write.Refused (refusal.ShortBuffer need) ≡ writeProblem p (length buf) = simp (lt-ltb (length buf) need h) at (writes _ e) in
+        let a : write.Refused (refusal.BufferTooShort need) ≡ writeProblem p (length buf) = simp (lt-ltb (length buf) need h) at (writes _ e) in
         (a, holds _ a)
 
     checked : checkFields l ≡ fields.Done need

@@ -2,20 +2,13 @@
 use Prim.Native.Nat.{ℕ}
 use mathlib.Core.Path.{_≡_}
 use mathlib.Core.List.{List}
-use Rattle.model.specs.declared.Refusal.{Refusal}
-use Rattle.model.specs.declared.Refusal.the-variants.{Ended}
 use Rattle.model.specs.declared.Verdict.{Verdict}
 use Rattle.model.specs.declared.Verdict.the-variants as verdict
-use Rattle.model.specs.declared.Fields.{Fields}
-use Rattle.model.specs.declared.Fields.the-variants.{Done, Refused}
+use Rattle.model.specs.declared.FieldsAnswer.{FieldsAnswer}
 use Rattle.model.specs.Numbers.{problemOf}
 use Rattle.model.specs.File.{checkFields}
 use Rattle.model.specs.Operations.{readVerdict, readFile, afterFields, Checked}
-
--- The refusal that an answer holds. (Asked only where there is one.)
-unfoldable pub refusalIn : Fields → Refusal
-refusalIn (Refused f) = f
-refusalIn (Done at) = Ended at
+use Rattle.model.specs.Verdicts.{asVerdict}
 
 -- Numbers read from the file s: with the verdict they are Read's answer, and where it accepts they have passed the problem's own checks.
 pub record NumbersRead (s l : List ℕ) (v : Verdict) : Type 0 where
@@ -23,5 +16,8 @@ pub record NumbersRead (s l : List ℕ) (v : Verdict) : Type 0 where
   pub checked : v ≡ verdict.Accepted → Checked l
 
 -- A problem's checks, on its numbers.
-unfoldable pub checkNumbers : List ℕ → Fields
+unfoldable pub checkNumbers : List ℕ → FieldsAnswer
 checkNumbers l = afterFields (checkFields l) (problemOf l)
+
+unfoldable pub judgeNumbers : List ℕ → Verdict
+judgeNumbers l = asVerdict (checkNumbers l)

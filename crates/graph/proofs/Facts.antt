@@ -9,7 +9,7 @@ use lib.ListN.{length, getD}
 use lib.Dec.{leb, ltb, eqb}
 use borrow.Author.Tests.{not-false, ltb-true, ltb-false, leb-false, eqb-true, lt-ltb, le-leb}
 use Rattle.model.specs.declared.Refusal.{Refusal}
-use Rattle.model.specs.declared.Refusal.the-variants.{LacksEdge, BadRange, WrongEdge, NoReturn}
+use Rattle.model.specs.declared.Refusal.the-variants.{MissingEdge, WrongLoop, WrongEdge, NoEdgeBack}
 use Rattle.model.specs.declared.Verdict.{Verdict}
 use Rattle.model.specs.declared.Verdict.the-variants.{Accepted, Refused}
 use Rattle.model.specs.declared.Edge.{Edge}
@@ -18,7 +18,7 @@ use Rattle.model.specs.Zero.{zeroEdge, zeroLoop}
 use Rattle.model.specs.Search.{existsBelow}
 use Rattle.model.specs.Graph as graph
 use Rattle.model.specs.Graph.{edge, loop, holds, broken, andThen, graphRules}
-use Rattle.model.proofs.Answers.{refused-not-accepted}
+use Rattle.model.proofs.Answers.{accepted-both, refused-not-accepted}
 use Rattle.model.proofs.Cases.{by-bool}
 use Rattle.model.proofs.Lists.{mem-getD, index-of}
 use Rattle.model.proofs.Search.{some-below, none-below}
@@ -39,10 +39,6 @@ and-false a b e q = rw q at e
 or-false : (a b : Bool) → a || b ≡ false → (a ≡ false) × (b ≡ false)
 or-false true b e = absurd (true≢false e)
 or-false false b e = (refl, e)
-
-both : (v w : Verdict) → andThen v w ≡ Accepted → (v ≡ Accepted) × (w ≡ Accepted)
-both Accepted w e = (refl, e)
-both (Refused f) w e = refused-not-accepted e
 
 -- A rule that is not broken is broken nowhere.
 kept : (n : ℕ) (test : ℕ → Bool) (refusal : ℕ → Refusal) → broken n test refusal ≡ Accepted → (i : ℕ) → i < n → test i ≡ false
@@ -120,13 +116,13 @@ module _ (n : ℕ) (es : List Edge) (ls : List Loop) where
   pub graph-facts : graphRules n es ls ≡ Accepted → GraphFacts n es ls
   unfolding graphRules
   graph-facts e =
-      let a = both (broken n (graph.lacks n es) LacksEdge) _ e in
-      let b = both (broken (length ls) (graph.badRange n ls) BadRange) _ (a .1) in
-      let c = both (broken (length es) (λ i. graph.wrongEdge ls (edge es i)) WrongEdge) _ (b .1) in
-      let linked = kept n (graph.lacks n es) LacksEdge (a .0) in
-      let ranged = kept (length ls) (graph.badRange n ls) BadRange (b .0) in
+      let a = accepted-both (broken n (graph.lacks n es) MissingEdge) _ e in
+      let b = accepted-both (broken (length ls) (graph.badRange n ls) WrongLoop) _ (a .1) in
+      let c = accepted-both (broken (length es) (λ i. graph.wrongEdge ls (edge es i)) WrongEdge) _ (b .1) in
+      let linked = kept n (graph.lacks n es) MissingEdge (a .0) in
+      let ranged = kept (length ls) (graph.badRange n ls) WrongLoop (b .0) in
       let right = kept (length es) (λ i. graph.wrongEdge ls (edge es i)) WrongEdge (c .0) in
-      let returning = kept (length ls) (λ i. graph.noReturn es (loop ls i)) NoReturn (c .1) in
+      let returning = kept (length ls) (λ i. graph.noReturn es (loop ls i)) NoEdgeBack (c .1) in
       record {
         entered = entered linked;
         exited = exited linked;

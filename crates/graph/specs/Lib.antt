@@ -1,5 +1,1 @@
-pub mod Counts
-pub mod Plain
-pub mod Marks
-pub mod Words
-pub mod Lent
+pub mod Loops

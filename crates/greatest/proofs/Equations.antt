@@ -10,7 +10,7 @@ use borrow.Author.Tests.{eqb-true, eqb-false, not-true}
 use Rattle.model.specs.declared.Loop.{Loop}
 use Rattle.model.specs.Graph.{holds}
 use Rattle.model.proofs.Cases.{by-bool}
-use Rattle.greatest.specs.Numbers.{leave, best, Filled}
+use Rattle.greatest.specs.Numbers.{leave, best, Solved}
 use Rattle.greatest.proofs.Loops.{before-range}
 use Rattle.greatest.proofs.Rules.{Rules, Linked, enters-up}
 use Rattle.greatest.proofs.Levels.{High, Low}
@@ -42,28 +42,28 @@ module _ {a b : ℕ → ℕ} {m : ℕ} {Edge : ℕ → ℕ → Type 0} (G : List
         go (inr (i, s, e, t, le)) = (a i, arc v i s e, t, le)
 
 module _ {Edge : ℕ → ℕ → Type 0} {a b : ℕ → ℕ} {m n : ℕ} {ls : List Loop} {c : ℕ → ℕ} {e : Loop → ℕ} {D : ℕ → ℕ} {E T : Loop → ℕ} {cap : ℕ}
-    (G : Listing a b m Edge) (R : Rules Edge ls) (L : Linked Edge ls n) (F : Filled a b m ls c e D E T cap n) where
+    (G : Listing a b m Edge) (R : Rules Edge ls) (L : Linked Edge ls n) (S : Solved a b m ls c e D E T cap n) where
   pub high : High Edge ls c e D E T cap
   high = record {
-    first = omega (arith, F .first);
-    head = λ v l i q. omega (arith, F .head v l i q);
+    first = omega (arith, S .first);
+    head = λ v l i q. omega (arith, S .head v l i q);
     inner = λ u v d s f.
-        rw (F .inner v (L .ends u v d) (λ z. omega arith) f)
+        rw (S .inner v (L .ends u v d) (λ z. omega arith) f)
         (none-above G (λ u. true) (λ u. min cap (D u + leave E T ls u v + c v)) v u d refl);
-    begin = λ l i q. omega (arith, F .begin l i q);
+    begin = λ l i q. omega (arith, S .begin l i q);
     entry = λ u v l d i q g.
         let up = enters-up R u v l d i q g in
-        rw (F .entry v l i q (λ z. omega arith))
+        rw (S .entry v l i q (λ z. omega arith))
         (none-above G (λ u. not (holds l u)) (λ u. min cap (D u + leave E T ls u v + e l)) v u d (ap not g));
     again = λ u v l d i q g.
-        rw (F .again v l i q) (none-above G (λ u. holds l u) (λ u. min cap (D u + leave E T ls u v)) v u d g);
+        rw (S .again v l i q) (none-above G (λ u. holds l u) (λ u. min cap (D u + leave E T ls u v)) v u d g);
   }
 
   low-entry : (v : ℕ) (l : Loop) → List·Memᴰ l ls → l .header ≡ v
       → ((v ≡ 0) × (E l ≤ e l)) ⊎ ((u : ℕ) × Edge u v × (holds l u ≡ false) × (E l ≤ D u + leave E T ls u v + e l))
   low-entry v l i q =
       by-bool (eqb v 0)
-      (λ z. let y = eqb-true v 0 z in inl (y, omega (arith, F .begin l i (omega arith))))
+      (λ z. let y = eqb-true v 0 z in inl (y, omega (arith, S .begin l i (omega arith))))
       (λ z. inr (later (eqb-false v 0 z)))
     where
       later : (v ≡ 0 → ⊥) → (u : ℕ) × Edge u v × (holds l u ≡ false) × (E l ≤ D u + leave E T ls u v + e l)
@@ -72,19 +72,19 @@ module _ {Edge : ℕ → ℕ → Type 0} {a b : ℕ → ℕ} {m n : ℕ} {ls : L
           let (u, d, lt) = L .lower v (omega arith) z in
           let out = before-range l u (omega arith) in
           let p = some-reaches G (λ u. not (holds l u)) (λ u. min cap (D u + leave E T ls u v + e l)) v u d (ap not out) in
-          (p .0, p .1, not-true (holds l (p .0)) (p .2), omega (arith, F .entry v l i q z, p .3))
+          (p .0, p .1, not-true (holds l (p .0)) (p .2), omega (arith, S .entry v l i q z, p .3))
 
   pub low : Low Edge ls c e D E T n
   low = record {
-    first = omega (arith, F .first);
-    head = λ v l i q. omega (arith, F .head v l i q);
+    first = omega (arith, S .first);
+    head = λ v l i q. omega (arith, S .head v l i q);
     inner = λ v s z f.
         let (u, d, lt) = L .lower v s z in
         let p = some-reaches G (λ u. true) (λ u. min cap (D u + leave E T ls u v + c v)) v u d refl in
-        (p .0, p .1, omega (arith, F .inner v s z f, p .3));
+        (p .0, p .1, omega (arith, S .inner v s z f, p .3));
     entry = low-entry;
     again = λ v l i q.
         let (u, d, g) = L .round l i in
         let p = some-reaches G (λ u. holds l u) (λ u. min cap (D u + leave E T ls u v)) v u (subst (λ (x : ℕ). Edge u x) q d) g in
-        (p .0, p .1, p .2, omega (arith, F .again v l i q, p .3));
+        (p .0, p .1, p .2, omega (arith, S .again v l i q, p .3));
   }

@@ -11,7 +11,7 @@ use Rattle.model.specs.Graph.{holds, edgesOf, loopsOf}
 use Rattle.model.specs.Walks.{EdgeOf, lastVertex, Lawful, Greatest}
 use Rattle.model.specs.Charges.{charges}
 use Rattle.graph.proofs.Facts.{GraphFacts}
-use Rattle.greatest.specs.Numbers.{starts, ends, Filled}
+use Rattle.greatest.specs.Numbers.{starts, ends, Solved}
 use Rattle.greatest.proofs.Weights.{weights, weights-plain}
 use Rattle.greatest.proofs.Rules.{Rules, Order}
 use Rattle.greatest.proofs.Levels.{High, Low}
@@ -37,15 +37,15 @@ module _ (p : Problem) {c : ℕ → ℕ} {e : Loop → ℕ} {D : ℕ → ℕ} {E
       reached = let (h, w, g) = reaches in (h, w, omega (arith, no-heavier h w));
     }
 
--- In document 01's terms: charges, and numbers that are filled.
+-- In document 01's terms: charges, and numbers that solve the equations.
 module _ (p : Problem) {c : ℕ → ℕ} {D : ℕ → ℕ} {E T : Loop → ℕ} {cap : ℕ}
     (G : GraphFacts (p .«vertex_count») (edgesOf p) (loopsOf p)) (B : Ranges (p .«vertex_count») (edgesOf p) (loopsOf p))
-    (F : Filled (starts (edgesOf p)) (ends (edgesOf p)) (length (edgesOf p)) (loopsOf p) c (λ l. 0) D E T cap (p .«vertex_count»)) where
+    (S : Solved (starts (edgesOf p)) (ends (edgesOf p)) (length (edgesOf p)) (loopsOf p) c (λ l. 0) D E T cap (p .«vertex_count»)) where
   is-high : High (EdgeOf p) (loopsOf p) c (λ l. 0) D E T cap
-  is-high = high (listing (edgesOf p)) (rules G B) (linked G B) F
+  is-high = high (listing (edgesOf p)) (rules G B) (linked G B) S
 
   is-low : Low (EdgeOf p) (loopsOf p) c (λ l. 0) D E T (p .«vertex_count»)
-  is-low = low (listing (edgesOf p)) (rules G B) (linked G B) F
+  is-low = low (listing (edgesOf p)) (rules G B) (linked G B) S
 
   plain : (h : List ℕ) → weights (loopsOf p) c (λ l. 0) (lastVertex p ∷ h) ≡ charges c (lastVertex p ∷ h)
   plain h = weights-plain (loopsOf p) c (lastVertex p ∷ h)

@@ -8,7 +8,7 @@ use borrow.Author.Tests.{not-true}
 use Rattle.model.specs.declared.Loop.{Loop}
 use Rattle.model.specs.Graph.{holds}
 use Rattle.model.proofs.Cases.{by-bool}
-use Rattle.greatest.specs.Numbers.{left, leave, Filled, Upto}
+use Rattle.greatest.specs.Numbers.{left, leave, Solved, SolvedUpto}
 use Rattle.greatest.proofs.Loops.{holds-from, past-range}
 use Rattle.greatest.proofs.Sums.{sum-same}
 use Rattle.greatest.proofs.Rules.{Rules, Order, Linked, enters-up, ascends, leaves-back}
@@ -36,7 +36,7 @@ leaves-closed u v l s x y = let z = holds-from l u x in past-range l v y (omega 
 -- All vertices and all loops.
 pub complete : {Edge : ℕ → ℕ → Type 0} {a b : ℕ → ℕ} {m n : ℕ} {ls : List Loop} {c : ℕ → ℕ} {e : Loop → ℕ} {D : ℕ → ℕ} {E T : Loop → ℕ} {cap : ℕ}
     {done : Loop → Type 0} → Linked Edge ls n → 0 < n → ((l : Loop) → List·Memᴰ l ls → done l)
-    → Upto a b m ls c e D E T cap n done → Filled a b m ls c e D E T cap n
+    → SolvedUpto a b m ls c e D E T cap n done → Solved a b m ls c e D E T cap n
 complete L p q U = record {
   first = U .first p;
   head = λ v l i e. let s = L .inside l i in U .head v l i e (omega arith);
@@ -72,7 +72,7 @@ module _ {Edge : ℕ → ℕ → Type 0} {a b : ℕ → ℕ} {m n : ℕ} {ls : L
         let t = below k j s in
         (sameE l i (omega arith), sameT l i (inward k l j i s (z .0) (z .1))))
 
-    pub frame : Upto a b m ls c e D E T cap x done → Upto a b m ls c e D′ E′ T′ cap x done
+    pub frame : SolvedUpto a b m ls c e D E T cap x done → SolvedUpto a b m ls c e D′ E′ T′ cap x done
     frame U = record {
       first = λ p. sym (sameD 0 p) ∙ U .first p;
       head = λ v l i q s. sym (sameD v s) ∙ U .head v l i q s;

@@ -49,8 +49,8 @@ module _ (a b : ℕ → ℕ) (m : ℕ) (ls : List Loop) (c : ℕ → ℕ) (e : L
   abbrev pub bestTurn : Loop → ℕ → ℕ
   bestTurn l v = best a b (λ u. holds l u) (λ u. min cap (D u + leave E T ls u v)) v m
 
-  -- The numbers of the vertices 0 to n - 1 and of all loops satisfy the equations by which they are filled.
-  pub record Filled (n : ℕ) : Type 0 where
+  -- The numbers of the vertices 0 to n - 1 and of all loops solve the equations by which they are filled.
+  pub record Solved (n : ℕ) : Type 0 where
     pub first : D 0 ≡ c 0
     pub head : (v : ℕ) (l : Loop) → List·Memᴰ l ls → l .header ≡ v → D v ≡ c v
     pub inner : (v : ℕ) → v < n → (v ≡ 0 → ⊥) → NoHeader ls v → D v ≡ bestVisit v
@@ -59,7 +59,7 @@ module _ (a b : ℕ → ℕ) (m : ℕ) (ls : List Loop) (c : ℕ → ℕ) (e : L
     pub again : (v : ℕ) (l : Loop) → List·Memᴰ l ls → l .header ≡ v → T l ≡ bestTurn l v
 
   -- The equations of the vertices below x, and of the iterations of the loops that are done.
-  pub record Upto (x : ℕ) (done : Loop → Type 0) : Type 0 where
+  pub record SolvedUpto (x : ℕ) (done : Loop → Type 0) : Type 0 where
     pub first : 0 < x → D 0 ≡ c 0
     pub head : (v : ℕ) (l : Loop) → List·Memᴰ l ls → l .header ≡ v → v < x → D v ≡ c v
     pub inner : (v : ℕ) → v < x → (v ≡ 0 → ⊥) → NoHeader ls v → D v ≡ bestVisit v

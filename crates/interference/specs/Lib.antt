@@ -1,4 +1,1 @@
-pub mod Words
-pub mod Rounds
-pub mod Flows
 pub mod Copies

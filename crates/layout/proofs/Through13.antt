@@ -1,8 +1,8 @@
 -- The checks of Bound and Run through 13: the problem's own, then the layout's.
-use Prim.Native.Nat.{ℕ, _<_}
+use Prim.Native.Nat.{ℕ, _-_, _<_}
 use mathlib.Core.Path.{_≡_, refl, sym, ap, _∙_}
 use mathlib.Core.List.{List}
-use mathlib.Core.Bool.{false, cond}
+use mathlib.Core.Bool.{Bool, false, cond}
 use native.Mathlib.Omega.{arith}
 use lib.Dec.{ltb}
 use borrow.Author.Tests.{ltb-false}
@@ -13,49 +13,45 @@ use Rattle.model.specs.declared.Problem.{Problem}
 use Rattle.model.specs.declared.Bytes.{Bytes}
 use Rattle.model.specs.Zero.{bytes}
 use Rattle.model.specs.Numbers.{problemOf}
-use Rattle.model.specs.declared.Fields.{Fields}
-use Rattle.model.specs.declared.Fields.the-variants as fields
 use Rattle.model.specs.Search.{existsBelow}
 use Rattle.model.specs.Operations.{Checked}
 use Rattle.model.specs.Graph.{andThen}
+use Rattle.model.specs.Limits.{mostRegions}
 use Rattle.model.specs.Layouts.{regionOf, needOf, judgeLayout}
 use Rattle.model.specs.Verdicts.{judgeProblem, judgeBound}
 use Rattle.model.proofs.Cases.{by-bool}
-use Rattle.model.proofs.Answers.{refused-not-accepted}
+use Rattle.model.proofs.Answers.{accepted-both, refused-not-accepted}
 use Rattle.model.proofs.Search.{none-below}
 use Rattle.numbers.specs.Numbered.{Numbered}
-use Rattle.file.specs.Steps
-use Rattle.file.specs.Steps.{checkNumbers}
-use Rattle.file.proofs.Opened.{refused-problem, checked-problem}
+use Rattle.file.specs.Steps.{judgeNumbers}
+use Rattle.file.proofs.Opened.{judges-problem, checked-problem}
 use Rattle.layout.specs.declared.LayoutAnswer.{LayoutAnswer}
 use Rattle.layout.specs.declared.LayoutAnswer.the-variants.{Fits, Refused}
-use Rattle.layout.specs.Answers.{layoutAnswer, refusalIn}
-
--- Checks that end well ended well each.
-accepted-both : (v w : Verdict) → andThen v w ≡ verdict.Accepted → (v ≡ verdict.Accepted) × (w ≡ verdict.Accepted)
-accepted-both verdict.Accepted w e = (refl, e)
-accepted-both (verdict.Refused f) w e = refused-not-accepted e
+use Rattle.layout.specs.Answers.{layoutAnswer, layoutVerdict}
 
 module _ (p : Problem) (layout : List ℕ) where
   pub bad-problem : (x : Refusal) → judgeProblem p ≡ verdict.Refused x → judgeBound p layout ≡ verdict.Refused x
   unfolding judgeBound
   bad-problem x e = ap (λ (v : Verdict). andThen v (judgeLayout p layout)) e
 
-  -- Where nothing was refused, every function has one of the 32 regions.
-  pub regions-known : judgeBound p layout ≡ verdict.Accepted → (f : ℕ) → f < p .«function_count» → regionOf layout f < 32
+  abbrev unknown : ℕ → Bool
+  unknown f = ltb (mostRegions - 1) (regionOf layout f)
+
+  -- Where nothing was refused, every function has one of the regions.
+  pub regions-known : judgeBound p layout ≡ verdict.Accepted → (f : ℕ) → f < p .«function_count» → regionOf layout f < mostRegions
   unfolding judgeBound judgeLayout
   regions-known e f below =
       let layout-good = accepted-both (judgeProblem p) _ e .1 in
       let rest = accepted-both (cond (ltb (p .«function_count») _) _ _) _ layout-good .1 in
-      let known = accepted-both (cond (existsBelow (p .«function_count») (λ f. ltb 31 (regionOf layout f))) _ _) _ rest .0 in
-      let none : existsBelow (p .«function_count») (λ f. ltb 31 (regionOf layout f)) ≡ false =
-      by-bool (existsBelow (p .«function_count») (λ f. ltb 31 (regionOf layout f))) (λ t. refused-not-accepted (rw t at known)) (λ t. t) in
-      omega (arith, ltb-false 31 (regionOf layout f) (none-below (p .«function_count») (λ f. ltb 31 (regionOf layout f)) none f below))
+      let known = accepted-both (cond (existsBelow (p .«function_count») unknown) _ _) _ rest .0 in
+      let none : existsBelow (p .«function_count») unknown ≡ false =
+      by-bool (existsBelow (p .«function_count») unknown) (λ t. refused-not-accepted (rw t at known)) (λ t. t) in
+      omega (arith, ltb-false (mostRegions - 1) (regionOf layout f) (none-below (p .«function_count») unknown none f below))
 
 -- A problem whose own checks refused.
-module _ (p : Problem) (l layout : List ℕ) (numbered : Numbered p l) (f : Fields) (is : f ≡ checkNumbers l) where
-  pub refused-early : (r x : Refusal) → f ≡ fields.Refused r → x ≡ Steps.refusalIn f → judgeBound p layout ≡ verdict.Refused x
-  refused-early r x e q = bad-problem p layout x (refused-problem p l numbered f is r x e q)
+pub refused-early : (p : Problem) (l layout : List ℕ) → Numbered p l → (v : Verdict) → v ≡ judgeNumbers l → (x : Refusal) → v ≡ verdict.Refused x →
+    judgeBound p layout ≡ verdict.Refused x
+refused-early p l layout numbered v is x e = bad-problem p layout x (sym (judges-problem p l numbered v is) ∙ e)
 
 -- A layout with checked numbers: the refusal through 13, or the bytes that it needs.
 pub record Through (l layout : List ℕ) (need : Bytes) : Type 0 where
@@ -67,13 +63,12 @@ module _ (l layout : List ℕ) (ok : Checked l) (a : LayoutAnswer) (judged : a �
   unfolding judgeBound
   then-layout = ap (λ (v : Verdict). andThen v (judgeLayout (problemOf l) layout)) (checked-problem l ok)
 
-  pub refused-layout : (r x : Refusal) → a ≡ Refused r → x ≡ refusalIn a → judgeBound (problemOf l) layout ≡ verdict.Refused x
-  unfolding refusalIn
-  refused-layout r x e q = then-layout ∙ at (judgeLayout (problemOf l) layout) (sym judged ∙ e) ∙ ap verdict.Refused (sym (q ∙ ap refusalIn e))
+  pub refused-layout : (x : Refusal) → layoutVerdict a ≡ verdict.Refused x → judgeBound (problemOf l) layout ≡ verdict.Refused x
+  refused-layout x e = then-layout ∙ sym (same-verdict (judgeLayout (problemOf l) layout)) ∙ ap layoutVerdict (sym judged) ∙ e
     where
-      at : (v : Verdict) → layoutAnswer v (needOf (problemOf l) layout) ≡ Refused r → v ≡ verdict.Refused r
-      at verdict.Accepted z = let w : _≡_ {A = ℕ} 0 1 = cc in absurd (omega arith)
-      at (verdict.Refused f) z = let same : f ≡ r = cc in ap verdict.Refused same
+      same-verdict : (v : Verdict) → layoutVerdict (layoutAnswer v (needOf (problemOf l) layout)) ≡ v
+      same-verdict verdict.Accepted = refl
+      same-verdict (verdict.Refused f) = refl
 
   pub through : (need : Bytes) → a ≡ Fits need → Through l layout need
   through need e = at (judgeLayout (problemOf l) layout) refl (sym judged ∙ e)

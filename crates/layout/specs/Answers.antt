@@ -2,8 +2,6 @@
 use Prim.Native.Nat.{ℕ}
 use Rattle.model.specs.declared.Verdict.{Verdict}
 use Rattle.model.specs.declared.Verdict.the-variants as verdict
-use Rattle.model.specs.declared.Refusal.{Refusal}
-use Rattle.model.specs.declared.Refusal.the-variants.{ScratchpadFull}
 use Rattle.model.specs.Zero.{bytes}
 use Rattle.layout.specs.declared.LayoutAnswer.{LayoutAnswer}
 use Rattle.layout.specs.declared.LayoutAnswer.the-variants.{Fits, Refused}
@@ -12,7 +10,6 @@ abbrev pub layoutAnswer : Verdict → ℕ → LayoutAnswer
 layoutAnswer verdict.Accepted need = Fits (bytes need)
 layoutAnswer (verdict.Refused f) need = Refused f
 
--- The refusal that an answer holds. (Asked only where there is one.)
-unfoldable pub refusalIn : LayoutAnswer → Refusal
-refusalIn (Refused f) = f
-refusalIn (Fits need) = ScratchpadFull (need .0)
+abbrev pub layoutVerdict : LayoutAnswer → Verdict
+layoutVerdict (Fits need) = verdict.Accepted
+layoutVerdict (Refused f) = verdict.Refused f

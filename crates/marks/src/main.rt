@@ -2,6 +2,7 @@
 mod show;
 
 use model::Problem;
+use model::limits;
 
 fn bound(name: &[u8], problem: Problem, layout: &[u8]) {
     show::text(name);
@@ -10,7 +11,8 @@ fn bound(name: &[u8], problem: Problem, layout: &[u8]) {
 
 fn run(name: &[u8], problem: Problem, layout: &[u8], walk: &[u32]) {
     show::text(name);
-    show::ran(run::run(problem, layout, walk));
+    let mut held = [0u8; limits::MOST_REGIONS];
+    show::ran(run::run(problem, layout, walk, &mut held));
 }
 
 fn marks_of_p() {

@@ -3,7 +3,6 @@ use libc::STDOUT_FILENO;
 use model::BoundAnswer;
 use model::Refusal;
 use model::RunAnswer;
-use model::RunVerdict;
 
 pub fn text(words: &[u8]) {
     io::write_all(STDOUT_FILENO, words);
@@ -33,13 +32,12 @@ pub fn bounded(answer: BoundAnswer) {
 }
 
 pub fn ran(answer: RunAnswer) {
-    let verdict = answer.verdict;
-    match verdict {
-        RunVerdict::Ran(run) => {
+    match answer {
+        RunAnswer::Ran(run) => {
             number(b"cycles ", run.cycles.0);
             number(b", loads ", run.loads);
         }
-        RunVerdict::Refused(f) => refusal(f),
+        RunAnswer::Refused(f) => refusal(f),
     }
     text(b"\n");
 }

@@ -1,10 +1,12 @@
 -- A refusal is no good answer: what says that it is one proves anything.
 use Prim.Native.Nat.{ℕ}
-use mathlib.Core.Path.{_≡_}
+use mathlib.Core.Path.{_≡_, refl}
 use native.Mathlib.Omega.{arith}
 use Rattle.model.specs.declared.Refusal.{Refusal}
+use Rattle.model.specs.declared.Verdict.{Verdict}
 use Rattle.model.specs.declared.Verdict.the-variants as verdict
-use Rattle.model.specs.declared.Fields.the-variants as fields
+use Rattle.model.specs.Graph.{andThen}
+use Rattle.model.specs.declared.FieldsAnswer.the-variants as fields
 
 module _ {P : Type 0} {f : Refusal} where
   pub refused-not-accepted : verdict.Refused f ≡ verdict.Accepted → P
@@ -12,3 +14,8 @@ module _ {P : Type 0} {f : Refusal} where
 
   pub refused-not-done : {n : ℕ} → fields.Refused f ≡ fields.Done n → P
   refused-not-done e = let q : _≡_ {A = ℕ} 0 1 = cc in absurd (omega arith)
+
+-- Checks that end well ended well each.
+pub accepted-both : (v w : Verdict) → andThen v w ≡ verdict.Accepted → (v ≡ verdict.Accepted) × (w ≡ verdict.Accepted)
+accepted-both verdict.Accepted w e = (refl, e)
+accepted-both (verdict.Refused f) w e = refused-not-accepted e

@@ -3,8 +3,8 @@ use Prim.Native.Nat.{ℕ, suc, _+_, _-_, _≤_, _<_}
 use mathlib.Core.Path.{_≡_, refl, sym}
 use mathlib.Core.Bool.{Bool, true, false, cond, _&&_, true≢false}
 use native.Mathlib.Omega.{arith}
-use lib.Dec.{ltb}
-use borrow.Author.Tests.{ltb-true, ltb-false}
+use lib.Dec.{ltb, eqb}
+use borrow.Author.Tests.{ltb-true, ltb-false, eqb-true, eqb-false}
 
 pub by-bool : {P : Type 0} (t : Bool) → (t ≡ true → P) → (t ≡ false → P) → P
 by-bool true f g = f refl
@@ -34,3 +34,10 @@ and-right false b e = true-not-false (sym e)
 -- The turns that are left of a loop from i to n.
 pub left-of : (i n : ℕ) → i < n → n - i ≡ suc (n - (i + 1))
 left-of i n h = omega arith
+
+pub by-same : {P : Type 0} (a b : ℕ) → (a ≡ b → P) → ((a ≡ b → ⊥) → P) → P
+by-same a b f g = by-bool (eqb a b) (λ e. f (eqb-true a b e)) (λ e. g (eqb-false a b e))
+
+-- A loop that has come to its end.
+pub all-done : (i count n : ℕ) → i ≤ count → count ≤ i → count ≡ n → i ≡ n
+all-done i count n low high e = omega arith

@@ -1,10 +1,10 @@
--- Laws of lists: what stands in a table and in its first part, membership by index, and one part written behind another.
+-- Laws of lists: what stands in a table and in its first part, membership by index, lists of one value, and one part written behind another.
 use Prim.Native.Nat.{ℕ, zero, suc, _+_, _≤_, _<_}
 use mathlib.Core.Path.{_≡_, refl, sym, ap, _∙_}
 use mathlib.Core.List.{List, [], _∷_, _++_, List·Memᴰ, List·Memᴰ·head, List·Memᴰ·tail}
 use native.Mathlib.Omega.{arith}
 use native.Mathlib.Nat.{zero-add, add-zero}
-use lib.ListN.{length, getD, take, set}
+use lib.ListN.{length, getD, take, set, replicate}
 use lib.Seq.{getD-take, length-take-le, ext-getD, sets}
 use Rattle.model.specs.Numbers.{table, tableFrom}
 
@@ -47,6 +47,12 @@ module _ {A : Type 0} where
   pub index-of : {a : A} {s : List A} (d : A) → List·Memᴰ a s → (i : ℕ) × (i < length s) × (getD s i d ≡ a)
   index-of d (List·Memᴰ·head e) = (0, omega arith, sym e)
   index-of d (List·Memᴰ·tail m) = let r = index-of d m in (suc (r .0), omega (arith, r .1), r .2)
+
+  -- A list of one value has it at every place, also behind its end.
+  pub getD-replicate-self : (n k : ℕ) (x : A) → getD (replicate n x) k x ≡ x
+  getD-replicate-self zero k x = refl
+  getD-replicate-self (suc n) zero x = refl
+  getD-replicate-self (suc n) (suc k) x = getD-replicate-self n k x
 
   -- One part written behind another.
   pub sets-append : (xs ys l : List A) (i : ℕ) → sets l i (xs ++ ys) ≡ sets (sets l i xs) (i + length xs) ys

@@ -2,7 +2,7 @@
 -- its answer says of the numbers below n.
 use Prim.Native.Nat.{ℕ, zero, suc, _+_, _-_, _≤_, _<_}
 use mathlib.Core.Path.{_≡_, sym, ap, _∙_}
-use mathlib.Core.Bool.{Bool, true, false, cond}
+use mathlib.Core.Bool.{Bool, true, false, cond, _||_}
 use native.Mathlib.Omega.{arith}
 use native.Mathlib.Nat.{sub-zero}
 use lib.Dec.{eqb}
@@ -86,3 +86,23 @@ module _ (n : ℕ) (test : ℕ → Bool) where
 
   pub exists-at : (i : ℕ) → i < n → test i ≡ true → existsBelow n test ≡ true
   exists-at i h e = by-bool (existsBelow n test) (λ q. q) (λ q. true-not-false (sym e ∙ none-below q i h))
+
+-- Whether some number passes, as the numbers grow.
+pub exists-first : (test : ℕ → Bool) → existsBelow 0 test ≡ false
+exists-first test = le-ltb (lowestBelow 0 test) 0 (omega arith)
+
+pub exists-nowhere : (n : ℕ) (test : ℕ → Bool) → ((i : ℕ) → i < n → test i ≡ false) → existsBelow n test ≡ false
+exists-nowhere n test all =
+    by-bool (existsBelow n test) (λ q. let r = some-below n test q in true-not-false (sym (r .2) ∙ all (r .0) (r .1))) (λ q. q)
+
+pub exists-more : (n : ℕ) (test : ℕ → Bool) → existsBelow (suc n) test ≡ (existsBelow n test || test n)
+exists-more n test =
+    by-bool (existsBelow n test)
+    (λ e. let r = some-below n test e in rw e (exists-at (suc n) test (r .0) (omega (arith, r .1)) (r .2)))
+    (λ e.
+    by-bool (test n)
+    (λ t. rw (e, t) (exists-at (suc n) test n (omega arith) t))
+    (λ t. rw (e, t) (exists-nowhere (suc n) test (missed e t))))
+  where
+    missed : existsBelow n test ≡ false → test n ≡ false → (i : ℕ) → i < suc n → test i ≡ false
+    missed e t i h = by-bool (eqb i n) (λ q. rw (eqb-true i n q) t) (λ q. none-below n test e i (omega (arith, eqb-false i n q)))

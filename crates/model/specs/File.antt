@@ -8,15 +8,17 @@ use Rattle.model.specs.declared.Refusal.the-variants as refusal
 use Rattle.model.specs.declared.Number as spelt
 use Rattle.model.specs.declared.Number.the-variants as number
 use Rattle.model.specs.declared.Field.{Field}
-use Rattle.model.specs.declared.Fields.{Fields}
-use Rattle.model.specs.declared.Fields.the-variants.{Done, Refused}
+use Rattle.model.specs.declared.FieldsAnswer.{FieldsAnswer}
+use Rattle.model.specs.declared.FieldsAnswer.the-variants.{Done, Refused}
 use Rattle.model.specs.Spelling.{readNumber, numberSize, numberBytes}
 use Rattle.model.specs.Numbers.{table}
-use Rattle.model.specs.Table.{least, greatest, base, kind, jump, countOver}
+use Rattle.model.specs.Table.{least, greatest, base, kind, jump, countOver, countKind, firstKind, lastKind}
+use Rattle.model.specs.Places as places
+use Rattle.model.specs.Rows as rows
 
 -- The most numbers that a file has.
 abbrev pub numberCount : ℕ
-numberCount = 1446
+numberCount = places.end
 
 -- Read looks at no byte from here on: a number takes at most five bytes.
 abbrev pub readLength : ℕ
@@ -24,10 +26,10 @@ readLength = 5 * numberCount + 1
 
 -- The file's first field: the edition.
 abbrev pub firstField : Field
-firstField = record { row = 0; place = 0; left = 0 }
+firstField = record { row = rows.edition; place = places.edition; left = 0 }
 
 abbrev pub atEnd : Field → Bool
-atEnd c = leb 15 (c .row)
+atEnd c = leb rows.end (c .row)
 
 -- Where a row begins.
 abbrev pub rowStart : ℕ → Field
@@ -45,17 +47,17 @@ afterItem c =
 -- The field after c, at which v stands.
 unfoldable pub nextField : Field → ℕ → Field
 nextField c v =
-    cond (eqb (kind (c .row)) 1) (afterCount c v)
-    (cond (eqb (kind (c .row)) 4) (afterItem c)
+    cond (eqb (kind (c .row)) countKind) (afterCount c v)
+    (cond (eqb (kind (c .row)) lastKind) (afterItem c)
     (record { row = c .row + 1; place = c .place + 1; left = c .left }))
 
 -- Where a count read earlier narrows the row: v stays below it.
 unfoldable pub belowCount : List ℕ → ℕ → ℕ → Bool
 belowCount l row v = eqb (countOver row) 0 || ltb v (getD l (countOver row) 0)
 
--- A loop's last vertex is not below its header, the number just before it.
+-- A loop's last vertex is not below its header.
 unfoldable pub fromHeader : List ℕ → Field → ℕ → Bool
-fromHeader l c v = not (eqb (c .row) 13) || leb (getD l (c .place - 1) 0) v
+fromHeader l c v = not (eqb (c .row) rows.last) || leb (getD l (c .place - (places.last - places.header)) 0) v
 
 -- Whether v may stand at c, where l has the numbers before it.
 unfoldable pub inRange : List ℕ → Field → ℕ → Bool
@@ -65,29 +67,37 @@ inRange l c v = leb (least (c .row)) v && (leb v (greatest (c .row)) && (belowCo
 unfoldable pub edgeBefore : ℕ → ℕ → ℕ → ℕ → Bool
 edgeBefore from to from′ to′ = ltb from from′ || (eqb from from′ && ltb to to′)
 
+-- How far behind an item's first number its last stands.
+abbrev pub edgeSpan : ℕ
+edgeSpan = places.to - places.from
+
+abbrev pub loopSpan : ℕ
+loopSpan = places.bound - places.header
+
 -- Whether the item whose last number stands at c may follow the item before it. Edges ascend, loops ascend by header; other items have no order.
 unfoldable pub ascends : List ℕ → Field → Bool
 ascends l c =
     cond (eqb (c .place) (base (c .row))) true
-    (cond (eqb (c .row) 10) (edgeBefore (getD l (c .place - 3) 0) (getD l (c .place - 2) 0) (getD l (c .place - 1) 0) (getD l (c .place) 0))
-    (cond (eqb (c .row) 14) (ltb (getD l (c .place - 5) 0) (getD l (c .place - 2) 0)) true))
+    (cond (eqb (c .row) rows.to)
+    (edgeBefore (getD l (c .place - (places.edgeWidth + edgeSpan)) 0) (getD l (c .place - places.edgeWidth) 0) (getD l (c .place - edgeSpan) 0) (getD l (c .place) 0))
+    (cond (eqb (c .row) rows.bound) (ltb (getD l (c .place - (places.loopWidth + loopSpan)) 0) (getD l (c .place - loopSpan) 0)) true))
 
 -- Where the item that c belongs to starts, if c stands at a position and `start` was said of the field before.
 unfoldable pub itemStart : Field → ℕ → ℕ → ℕ
-itemStart c at start = cond (eqb (kind (c .row)) 2) at start
+itemStart c at start = cond (eqb (kind (c .row)) firstKind) at start
 
 -- What reading the fields leaves: the answer, and the numbers as far as they were read.
 pub record Scan : Type 0 where
-  pub answer : Fields
+  pub answer : FieldsAnswer
   pub numbers : List ℕ
 
-abbrev pub scanned : Fields → List ℕ → Scan
+abbrev pub scanned : FieldsAnswer → List ℕ → Scan
 scanned a l = record { answer = a; numbers = l }
 
 -- 1, the bytes end before a number does; 2, a misspelt number; or what is done with the number.
 abbrev pub onNumber : spelt.Number → ℕ → ℕ → List ℕ → (ℕ → ℕ → Scan) → Scan
 onNumber (number.Value v next) size at l go = go v next
-onNumber number.Ended size at l go = scanned (Refused (refusal.Ended size)) l
+onNumber number.Ended size at l go = scanned (Refused (refusal.EndsEarly size)) l
 onNumber number.Misspelt size at l go = scanned (Refused (refusal.Misspelt at)) l
 
 -- Reads from the field c on, at most n fields, at a position of the bytes s, into the numbers l. 3, out of range; after an item's last number 4, not ascending.
@@ -106,7 +116,7 @@ abbrev pub readFields : List ℕ → Scan
 readFields s = readFrom numberCount s 0 0 firstField (replicate numberCount 0)
 
 -- The same judgement of numbers that are there already, placed by the bytes that they would be written as.
-unfoldable pub checkFrom : ℕ → ℕ → ℕ → Field → List ℕ → Fields
+unfoldable pub checkFrom : ℕ → ℕ → ℕ → Field → List ℕ → FieldsAnswer
 checkFrom zero at start c l = Done at
 checkFrom (suc n) at start c l =
     cond (atEnd c) (Done at)
@@ -116,7 +126,7 @@ checkFrom (suc n) at start c l =
     (Refused (refusal.NotAscending (itemStart c at start))))
     (Refused (refusal.OutOfRange at)))
 
-abbrev pub checkFields : List ℕ → Fields
+abbrev pub checkFields : List ℕ → FieldsAnswer
 checkFields l = checkFrom numberCount 0 0 firstField l
 
 -- The bytes of the fields from c on: each number in its shortest spelling.
@@ -132,10 +142,10 @@ fileBytes l = bytesFrom numberCount firstField l
 -- Whether a place of a problem's numbers is in use: the other places are spare.
 unfoldable pub inUse : List ℕ → ℕ → Bool
 inUse l k =
-    ltb k (3 + 2 * getD l 2 0)
-    || ((leb 67 k && ltb k (68 + 2 * getD l 67 0))
-    || ((leb 324 k && ltb k (325 + 2 * getD l 324 0))
-    || (leb 1349 k && ltb k (1350 + 3 * getD l 1349 0))))
+    ltb k (places.size + places.functionWidth * getD l places.functionCount 0)
+    || ((leb places.vertexCount k && ltb k (places.function + places.vertexWidth * getD l places.vertexCount 0))
+    || ((leb places.edgeCount k && ltb k (places.from + places.edgeWidth * getD l places.edgeCount 0))
+    || (leb places.loopCount k && ltb k (places.header + places.loopWidth * getD l places.loopCount 0))))
 
 -- A problem's numbers with every spare place zero.
 unfoldable pub cleared : List ℕ → List ℕ

@@ -5,7 +5,7 @@ use mathlib.Core.Bool.{Bool, cond, not, _&&_, _||_}
 use lib.ListN.{length, getD, take}
 use lib.Dec.{eqb, ltb, leb}
 use Rattle.model.specs.declared.Refusal.{Refusal}
-use Rattle.model.specs.declared.Refusal.the-variants.{LacksEdge, BadRange, WrongEdge, NoReturn}
+use Rattle.model.specs.declared.Refusal.the-variants.{MissingEdge, WrongLoop, WrongEdge, NoEdgeBack}
 use Rattle.model.specs.declared.Verdict.{Verdict}
 use Rattle.model.specs.declared.Verdict.the-variants.{Accepted, Refused}
 use Rattle.model.specs.declared.Function.{Function}
@@ -90,10 +90,10 @@ andThen (Refused f) next = Refused f
 module _ (n : ℕ) (es : List Edge) (ls : List Loop) where
   unfoldable pub graphRules : Verdict
   graphRules =
-      andThen (broken n (lacks n es) LacksEdge)
-      (andThen (broken (length ls) (badRange n ls) BadRange)
+      andThen (broken n (lacks n es) MissingEdge)
+      (andThen (broken (length ls) (badRange n ls) WrongLoop)
       (andThen (broken (length es) (λ i. wrongEdge ls (edge es i)) WrongEdge)
-      (broken (length ls) (λ i. noReturn es (loop ls i)) NoReturn)))
+      (broken (length ls) (λ i. noReturn es (loop ls i)) NoEdgeBack)))
 
 abbrev pub judgeGraph : Problem → Verdict
 judgeGraph p = graphRules (p .«vertex_count») (edgesOf p) (loopsOf p)

@@ -1,15 +1,16 @@
 -- Layouts: the region of each function, the bytes needed, and the refusals 11 to 13.
-use Prim.Native.Nat.{ℕ}
+use Prim.Native.Nat.{ℕ, _-_}
 use mathlib.Core.List.{List}
 use mathlib.Core.Bool.{cond}
 use lib.ListN.{length, getD}
 use lib.Dec.{eqb, ltb}
-use Rattle.model.specs.declared.Refusal.the-variants.{LongLayout, UnknownRegion, ScratchpadFull}
+use Rattle.model.specs.declared.Refusal.the-variants.{LayoutTooLong, UnknownRegion, ScratchpadTooSmall}
 use Rattle.model.specs.declared.Verdict.{Verdict}
 use Rattle.model.specs.declared.Verdict.the-variants.{Accepted, Refused}
 use Rattle.model.specs.declared.Problem.{Problem}
 use Rattle.model.specs.Graph.{andThen, broken}
 use Rattle.model.specs.Costs.{sizeOf, total, largest}
+use Rattle.model.specs.Limits.{mostRegions}
 
 -- A layout gives each function a region; one shorter than the function list puts the rest in region 0.
 unfoldable pub regionOf : List ℕ → ℕ → ℕ
@@ -21,11 +22,11 @@ largestIn p layout r = largest (p .«function_count») (λ f. cond (eqb (regionO
 
 -- The bytes that a layout needs: for each region used, the size of its largest function, all added.
 unfoldable pub needOf : Problem → List ℕ → ℕ
-needOf p layout = total 32 (largestIn p layout)
+needOf p layout = total mostRegions (largestIn p layout)
 
 -- 11, longer than the functions (their number); 12, a region above 31 (lowest function); 13, it needs more than the scratchpad (bytes needed).
 unfoldable pub judgeLayout : Problem → List ℕ → Verdict
 judgeLayout p layout =
-    andThen (cond (ltb (p .«function_count») (length layout)) (Refused (LongLayout (p .«function_count»))) Accepted)
-    (andThen (broken (p .«function_count») (λ f. ltb 31 (regionOf layout f)) UnknownRegion)
-    (cond (ltb (p .scratchpad .0) (needOf p layout)) (Refused (ScratchpadFull (needOf p layout))) Accepted))
+    andThen (cond (ltb (p .«function_count») (length layout)) (Refused (LayoutTooLong (p .«function_count»))) Accepted)
+    (andThen (broken (p .«function_count») (λ f. ltb (mostRegions - 1) (regionOf layout f)) UnknownRegion)
+    (cond (ltb (p .scratchpad .0) (needOf p layout)) (Refused (ScratchpadTooSmall (needOf p layout))) Accepted))

@@ -1,6 +1,9 @@
 pub mod Refusals
 pub mod Zero
 pub mod Spelling
+pub mod Places
+pub mod Rows
+pub mod Limits
 pub mod Table
 pub mod Numbers
 pub mod File

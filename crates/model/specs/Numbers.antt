@@ -9,6 +9,7 @@ use Rattle.model.specs.declared.Edge.{Edge}
 use Rattle.model.specs.declared.Loop.{Loop}
 use Rattle.model.specs.declared.Problem.{Problem}
 use Rattle.model.specs.Zero.{bytes, cycles}
+use Rattle.model.specs.Places as places
 
 abbrev pub functionNumbers : Function → List ℕ
 functionNumbers f = f .size .0 ∷ f .load .0 ∷ []
@@ -41,34 +42,34 @@ table n f = tableFrom n 0 f
 
 module _ (l : List ℕ) where
   abbrev pub functionAt : ℕ → Function
-  functionAt i = record { size = bytes (getD l (3 + 2 * i) 0); load = cycles (getD l (4 + 2 * i) 0) }
+  functionAt i = record { size = bytes (getD l (places.size + places.functionWidth * i) 0); load = cycles (getD l (places.load + places.functionWidth * i) 0) }
 
   abbrev pub vertexAt : ℕ → Vertex
-  vertexAt i = record { function = getD l (68 + 2 * i) 0; cost = cycles (getD l (69 + 2 * i) 0) }
+  vertexAt i = record { function = getD l (places.function + places.vertexWidth * i) 0; cost = cycles (getD l (places.cost + places.vertexWidth * i) 0) }
 
   abbrev pub edgeAt : ℕ → Edge
-  edgeAt i = record { from = getD l (325 + 2 * i) 0; to = getD l (326 + 2 * i) 0 }
+  edgeAt i = record { from = getD l (places.from + places.edgeWidth * i) 0; to = getD l (places.to + places.edgeWidth * i) 0 }
 
   abbrev pub loopAt : ℕ → Loop
-  loopAt i = record { header = getD l (1350 + 3 * i) 0; last = getD l (1351 + 3 * i) 0; bound = getD l (1352 + 3 * i) 0 }
+  loopAt i = record { header = getD l (places.header + places.loopWidth * i) 0; last = getD l (places.last + places.loopWidth * i) 0; bound = getD l (places.bound + places.loopWidth * i) 0 }
 
   unfoldable pub problemOf : Problem
   problemOf =
       record {
-        scratchpad = bytes (getD l 1 0);
-        «function_count» = getD l 2 0;
-        functions = table 32 functionAt;
-        «vertex_count» = getD l 67 0;
-        vertices = table 128 vertexAt;
-        «edge_count» = getD l 324 0;
-        edges = table 512 edgeAt;
-        «loop_count» = getD l 1349 0;
-        loops = table 32 loopAt;
+        scratchpad = bytes (getD l places.scratchpad 0);
+        «function_count» = getD l places.functionCount 0;
+        functions = table places.mostFunctions functionAt;
+        «vertex_count» = getD l places.vertexCount 0;
+        vertices = table places.mostVertices vertexAt;
+        «edge_count» = getD l places.edgeCount 0;
+        edges = table places.mostEdges edgeAt;
+        «loop_count» = getD l places.loopCount 0;
+        loops = table places.mostLoops loopAt;
       }
 
 -- A problem's arrays have their lengths: true of every value of the type, and told to the laws that need it.
 pub record Sized (p : Problem) : Type 0 where
-  pub functions : length (p .functions) ≡ 32
-  pub vertices : length (p .vertices) ≡ 128
-  pub edges : length (p .edges) ≡ 512
-  pub loops : length (p .loops) ≡ 32
+  pub functions : length (p .functions) ≡ places.mostFunctions
+  pub vertices : length (p .vertices) ≡ places.mostVertices
+  pub edges : length (p .edges) ≡ places.mostEdges
+  pub loops : length (p .loops) ≡ places.mostLoops

@@ -6,34 +6,30 @@ use mathlib.Core.Bool.{cond}
 use lib.ListN.{length}
 use lib.Seq.{sets}
 use lib.Dec.{ltb}
-use Rattle.model.specs.declared.Refusal.{Refusal}
 use Rattle.model.specs.declared.Refusal.the-variants as refusal
 use Rattle.model.specs.declared.Verdict.{Verdict}
 use Rattle.model.specs.declared.Verdict.the-variants as verdict
-use Rattle.model.specs.declared.Fields.{Fields}
-use Rattle.model.specs.declared.Fields.the-variants as fields
+use Rattle.model.specs.declared.FieldsAnswer.{FieldsAnswer}
+use Rattle.model.specs.declared.FieldsAnswer.the-variants as fields
 use Rattle.model.specs.declared.Problem.{Problem}
 use Rattle.model.specs.declared.ReadAnswer.{ReadAnswer}
+use Rattle.model.specs.declared.ReadAnswer.the-variants as read
 use Rattle.model.specs.declared.WriteAnswer.{WriteAnswer}
 use Rattle.model.specs.declared.WriteAnswer.the-variants as write
-use Rattle.model.specs.Zero.{zeroProblem}
 use Rattle.model.specs.Numbers.{numbersOf, problemOf}
 use Rattle.model.specs.File.{numberCount, readFields, checkFields, fileBytes, cleared}
 use Rattle.model.specs.Graph.{functionsOf, verticesOf, edgesOf, loopsOf, judgeGraph}
 
--- Read's answer; beside a refusal the problem is all zero.
-abbrev pub unread : Refusal → ReadAnswer
-unread f = record { verdict = verdict.Refused f; problem = zeroProblem }
-
+-- Read's answer, where the file's numbers are a problem's and this is the verdict on it.
 abbrev pub readVerdict : Verdict → Problem → ReadAnswer
-readVerdict verdict.Accepted p = record { verdict = verdict.Accepted; problem = p }
-readVerdict (verdict.Refused f) p = unread f
+readVerdict verdict.Accepted p = read.Accepted p
+readVerdict (verdict.Refused f) p = read.Refused f
 
 -- After the fields: 5, bytes left over; then the graph.
-abbrev pub readRest : ℕ → Fields → List ℕ → ReadAnswer
+abbrev pub readRest : ℕ → FieldsAnswer → List ℕ → ReadAnswer
 readRest size (fields.Done at) l =
-    cond (ltb at size) (unread (refusal.LeftOver at)) (readVerdict (judgeGraph (problemOf l)) (problemOf l))
-readRest size (fields.Refused f) l = unread f
+    cond (ltb at size) (read.Refused (refusal.LeftOver at)) (readVerdict (judgeGraph (problemOf l)) (problemOf l))
+readRest size (fields.Refused f) l = read.Refused f
 
 -- **Read.**
 unfoldable pub readFile : List ℕ → ReadAnswer
@@ -56,15 +52,15 @@ abbrev pub clearedProblem : Problem → Problem
 clearedProblem p = problemOf (cleared (numbersOf p))
 
 -- A problem's own checks, as in Write through 9, with the length of its file: every operation on a problem begins with these.
-abbrev pub afterGraph : Verdict → ℕ → Fields
+abbrev pub afterGraph : Verdict → ℕ → FieldsAnswer
 afterGraph verdict.Accepted need = fields.Done need
 afterGraph (verdict.Refused f) need = fields.Refused f
 
-abbrev pub afterFields : Fields → Problem → Fields
+abbrev pub afterFields : FieldsAnswer → Problem → FieldsAnswer
 afterFields (fields.Done need) p = afterGraph (judgeGraph p) need
 afterFields (fields.Refused f) p = fields.Refused f
 
-unfoldable pub checkProblem : Problem → Fields
+unfoldable pub checkProblem : Problem → FieldsAnswer
 checkProblem p = afterFields (checkFields (numbersOf p)) p
 
 -- A problem's numbers that passed these checks, for what goes on with the good case.
@@ -75,8 +71,8 @@ pub record Checked (l : List ℕ) : Type 0 where
   pub graph : judgeGraph (problemOf l) ≡ verdict.Accepted
 
 -- **Write** into a buffer of `room` bytes: the problem's checks, then 10, the buffer is too short.
-abbrev pub writeChecked : Fields → ℕ → WriteAnswer
-writeChecked (fields.Done need) room = cond (ltb room need) (write.Refused (refusal.ShortBuffer need)) (write.Written need)
+abbrev pub writeChecked : FieldsAnswer → ℕ → WriteAnswer
+writeChecked (fields.Done need) room = cond (ltb room need) (write.Refused (refusal.BufferTooShort need)) (write.Written need)
 writeChecked (fields.Refused f) room = write.Refused f
 
 unfoldable pub writeProblem : Problem → ℕ → WriteAnswer

@@ -1,49 +1,49 @@
 -- Refusals: document 01's number and place of each.
 use Prim.Native.Nat.{ℕ}
+use mathlib.Core.Path.{_≡_}
 use Rattle.model.specs.declared.Refusal.{Refusal}
-use Rattle.model.specs.declared.Refusal.the-variants.{Ended, Misspelt, OutOfRange, NotAscending, LeftOver, LacksEdge, BadRange, WrongEdge, NoReturn, ShortBuffer, LongLayout, UnknownRegion, ScratchpadFull, PastLimit, BadStep, PastBound, LongWalk}
+use Rattle.model.specs.declared.Refusal.the-variants.{EndsEarly, Misspelt, OutOfRange, NotAscending, LeftOver, MissingEdge, WrongLoop, WrongEdge, NoEdgeBack, BufferTooShort, LayoutTooLong, UnknownRegion, ScratchpadTooSmall, BoundTooLarge, WrongStep, BeyondBound, WalkTooLong}
 use Rattle.model.specs.declared.Verdict.{Verdict}
 use Rattle.model.specs.declared.Verdict.the-variants as verdict
 
 abbrev pub number : Refusal → ℕ
-number (Ended at) = 1
+number (EndsEarly at) = 1
 number (Misspelt at) = 2
 number (OutOfRange at) = 3
 number (NotAscending at) = 4
 number (LeftOver at) = 5
-number (LacksEdge at) = 6
-number (BadRange at) = 7
+number (MissingEdge at) = 6
+number (WrongLoop at) = 7
 number (WrongEdge at) = 8
-number (NoReturn at) = 9
-number (ShortBuffer at) = 10
-number (LongLayout at) = 11
+number (NoEdgeBack at) = 9
+number (BufferTooShort at) = 10
+number (LayoutTooLong at) = 11
 number (UnknownRegion at) = 12
-number (ScratchpadFull at) = 13
-number (PastLimit at) = 14
-number (BadStep at) = 15
-number (PastBound at) = 16
-number (LongWalk at) = 17
+number (ScratchpadTooSmall at) = 13
+number (BoundTooLarge at) = 14
+number (WrongStep at) = 15
+number (BeyondBound at) = 16
+number (WalkTooLong at) = 17
 
 abbrev pub place : Refusal → ℕ
-place (Ended at) = at
+place (EndsEarly at) = at
 place (Misspelt at) = at
 place (OutOfRange at) = at
 place (NotAscending at) = at
 place (LeftOver at) = at
-place (LacksEdge at) = at
-place (BadRange at) = at
+place (MissingEdge at) = at
+place (WrongLoop at) = at
 place (WrongEdge at) = at
-place (NoReturn at) = at
-place (ShortBuffer at) = at
-place (LongLayout at) = at
+place (NoEdgeBack at) = at
+place (BufferTooShort at) = at
+place (LayoutTooLong at) = at
 place (UnknownRegion at) = at
-place (ScratchpadFull at) = at
-place (PastLimit at) = at
-place (BadStep at) = at
-place (PastBound at) = at
-place (LongWalk at) = at
+place (ScratchpadTooSmall at) = at
+place (BoundTooLarge at) = at
+place (WrongStep at) = at
+place (BeyondBound at) = at
+place (WalkTooLong at) = at
 
--- The refusal that a verdict holds. (Asked only where there is one.)
-unfoldable pub refusalIn : Verdict → Refusal
-refusalIn (verdict.Refused f) = f
-refusalIn verdict.Accepted = Ended 0
+-- A verdict that refuses.
+abbrev pub Refuses : Verdict → Type 0
+Refuses v = (f : Refusal) × (v ≡ verdict.Refused f)

@@ -4,8 +4,8 @@ use mathlib.Core.Path.{_≡_}
 use mathlib.Core.List.{List, _∷_, reverse}
 use mathlib.Core.Bool.{Bool}
 use mathlib.Core.Logic.{_⊎_, _↔_}
-use lib.ListN.{length, getD, replicate}
-use Rattle.model.specs.declared.Refusal.the-variants.{PastLimit}
+use lib.ListN.{length, getD}
+use Rattle.model.specs.declared.Refusal.the-variants.{BoundTooLarge}
 use Rattle.model.specs.declared.Verdict.{Verdict}
 use Rattle.model.specs.declared.Verdict.the-variants as verdict
 use Rattle.model.specs.declared.Problem.{Problem}
@@ -14,9 +14,10 @@ use Rattle.model.specs.declared.InterferenceAnswer.the-variants as inter
 use Rattle.model.specs.declared.Bound.{Bound}
 use Rattle.model.specs.declared.BoundAnswer.{BoundAnswer}
 use Rattle.model.specs.declared.BoundAnswer.the-variants as bound
-use Rattle.model.specs.declared.RunVerdict.the-variants as run
 use Rattle.model.specs.declared.RunAnswer.{RunAnswer}
+use Rattle.model.specs.declared.RunAnswer.the-variants as run
 use Rattle.model.specs.Zero.{cycles as cyclesOf}
+use Rattle.model.specs.Limits.{mostRegions}
 use Rattle.model.specs.Numbers.{table}
 use Rattle.model.specs.Costs.{functionOf, howMany}
 use Rattle.model.specs.Walks.{EdgeOf, lastVertex, Lawful, Greatest}
@@ -70,19 +71,27 @@ pub record PastTheLimit (p : Problem) (layout : List ℕ) : Type 0 where
   pub lawful : Lawful p past
   pub over : boundLimit < charges (visitCharge p contested) (lastVertex p ∷ past) + firstLoads p cold
 
+-- A layout is *accepted* with a problem if none of Bound's refusals applies.
+abbrev pub AcceptedWith : Problem → List ℕ → Type 0
+AcceptedWith p layout = (judgeBound p layout ≡ verdict.Accepted) × (PastTheLimit p layout → ⊥)
+
 abbrev pub BoundSays : Problem → List ℕ → BoundAnswer → Type 0
 BoundSays p layout (bound.Bounded b) = (judgeBound p layout ≡ verdict.Accepted) × BoundIs p layout b
 BoundSays p layout (bound.Refused f) =
-    (judgeBound p layout ≡ verdict.Refused f) ⊎ ((judgeBound p layout ≡ verdict.Accepted) × (f ≡ PastLimit 0) × PastTheLimit p layout)
+    (judgeBound p layout ≡ verdict.Refused f) ⊎ ((judgeBound p layout ≡ verdict.Accepted) × (f ≡ BoundTooLarge 0) × PastTheLimit p layout)
 
--- **Run**: cycles, loads counted as they occur, and the function held in each region, 255 for none; beside a refusal the regions are all zero.
+-- **Run**: cycles, and loads counted as they occur.
 abbrev pub runAfter : Verdict → Problem → List ℕ → List ℕ → RunAnswer
-runAfter verdict.Accepted p layout walk =
-    record {
-      verdict = run.Ran (record { cycles = cyclesOf (cycles p layout (reverse walk)); loads = loads p layout (reverse walk) });
-      held = table 32 (heldAfter p layout (reverse walk));
-    }
-runAfter (verdict.Refused f) p layout walk = record { verdict = run.Refused f; held = replicate 32 0 }
+runAfter verdict.Accepted p layout walk = run.Ran (record { cycles = cyclesOf (cycles p layout (reverse walk)); loads = loads p layout (reverse walk) })
+runAfter (verdict.Refused f) p layout walk = run.Refused f
 
 unfoldable pub runWalk : Problem → List ℕ → List ℕ → RunAnswer
 runWalk p layout walk = runAfter (judgeRun p layout walk) p layout walk
+
+-- What the lent regions hold afterwards: the function held in each, 255 for none; after a refusal what they held.
+abbrev pub regionsAfter : Verdict → Problem → List ℕ → List ℕ → List ℕ → List ℕ
+regionsAfter verdict.Accepted p layout walk regions = table mostRegions (heldAfter p layout (reverse walk))
+regionsAfter (verdict.Refused f) p layout walk regions = regions
+
+unfoldable pub runRegions : Problem → List ℕ → List ℕ → List ℕ → List ℕ
+runRegions p layout walk regions = regionsAfter (judgeRun p layout walk) p layout walk regions

@@ -4,11 +4,11 @@ use mathlib.Core.List.{List, [], _∷_}
 use mathlib.Core.Bool.{Bool, false, cond, _&&_}
 use lib.ListN.{length}
 use lib.Dec.{eqb, ltb}
-use Rattle.model.specs.declared.Refusal.the-variants.{ShortBuffer, BadStep, PastBound, LongWalk}
+use Rattle.model.specs.declared.Refusal.the-variants.{BufferTooShort, WrongStep, BeyondBound, WalkTooLong}
 use Rattle.model.specs.declared.Verdict.{Verdict}
 use Rattle.model.specs.declared.Verdict.the-variants.{Accepted, Refused}
-use Rattle.model.specs.declared.Fields.{Fields}
-use Rattle.model.specs.declared.Fields.the-variants as fields
+use Rattle.model.specs.declared.FieldsAnswer.{FieldsAnswer}
+use Rattle.model.specs.declared.FieldsAnswer.the-variants as fields
 use Rattle.model.specs.declared.Problem.{Problem}
 use Rattle.model.specs.Search.{existsBelow}
 use Rattle.model.specs.Graph.{edge, loop, edgesOf, loopsOf, andThen}
@@ -17,7 +17,7 @@ use Rattle.model.specs.Layouts.{judgeLayout}
 use Rattle.model.specs.Operations.{checkProblem}
 
 -- As in Write through 9.
-abbrev pub asVerdict : Fields → Verdict
+abbrev pub asVerdict : FieldsAnswer → Verdict
 asVerdict (fields.Done need) = Accepted
 asVerdict (fields.Refused f) = Refused f
 
@@ -30,7 +30,7 @@ wordCount p = p .«vertex_count» * p .«function_count»
 
 unfoldable pub judgeInterference : Problem → ℕ → Verdict
 judgeInterference p room =
-    andThen (judgeProblem p) (cond (ltb room (wordCount p)) (Refused (ShortBuffer (wordCount p))) Accepted)
+    andThen (judgeProblem p) (cond (ltb room (wordCount p)) (Refused (BufferTooShort (wordCount p))) Accepted)
 
 -- **Bound**, through 13. (14 is about the bound itself.)
 unfoldable pub judgeBound : Problem → List ℕ → Verdict
@@ -55,11 +55,11 @@ module _ (p : Problem) where
 
   -- 15 before 16 at one position; an end that is not the last vertex is 15 at the length.
   unfoldable pub judgeWalk : List ℕ → ℕ → List ℕ → Verdict
-  judgeWalk h k [] = cond (atLast h) Accepted (Refused (BadStep k))
+  judgeWalk h k [] = cond (atLast h) Accepted (Refused (WrongStep k))
   judgeWalk h k (v ∷ rest) =
       cond (ltb v (p .«vertex_count») && mayFollow h v)
-      (cond (pastBound h v) (Refused (PastBound k)) (judgeWalk (v ∷ h) (k + 1) rest))
-      (Refused (BadStep k))
+      (cond (pastBound h v) (Refused (BeyondBound k)) (judgeWalk (v ∷ h) (k + 1) rest))
+      (Refused (WrongStep k))
 
 -- The longest walk that Run takes.
 abbrev pub walkLimit : ℕ
@@ -69,4 +69,4 @@ walkLimit = 1000000
 unfoldable pub judgeRun : Problem → List ℕ → List ℕ → Verdict
 judgeRun p layout walk =
     andThen (judgeBound p layout)
-    (cond (ltb walkLimit (length walk)) (Refused (LongWalk walkLimit)) (judgeWalk p [] 0 walk))
+    (cond (ltb walkLimit (length walk)) (Refused (WalkTooLong walkLimit)) (judgeWalk p [] 0 walk))

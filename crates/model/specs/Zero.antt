@@ -1,13 +1,11 @@
 -- Records with every place zero.
 use Prim.Native.Nat.{ℕ}
-use lib.ListN.{replicate}
 use Rattle.model.specs.declared.Bytes.{Bytes}
 use Rattle.model.specs.declared.Cycles.{Cycles}
 use Rattle.model.specs.declared.Function.{Function}
 use Rattle.model.specs.declared.Vertex.{Vertex}
 use Rattle.model.specs.declared.Edge.{Edge}
 use Rattle.model.specs.declared.Loop.{Loop}
-use Rattle.model.specs.declared.Problem.{Problem}
 
 abbrev pub bytes : ℕ → Bytes
 bytes n = record { 0 = n }
@@ -26,17 +24,3 @@ zeroEdge = record { from = 0; to = 0 }
 
 abbrev pub zeroLoop : Loop
 zeroLoop = record { header = 0; last = 0; bound = 0 }
-
-unfoldable pub zeroProblem : Problem
-zeroProblem =
-    record {
-      scratchpad = bytes 0;
-      «function_count» = 0;
-      functions = replicate 32 zeroFunction;
-      «vertex_count» = 0;
-      vertices = replicate 128 zeroVertex;
-      «edge_count» = 0;
-      edges = replicate 512 zeroEdge;
-      «loop_count» = 0;
-      loops = replicate 32 zeroLoop;
-    }

@@ -1,6 +1,12 @@
 // The problem of document 01 and what the operations answer. What they mean is in specs/.
 ghost use mathlib.Core.Path.{_≡_};
-ghost use Rattle.model.specs.Refusals.{number, place, refusalIn};
+ghost use Rattle.model.specs.Refusals.{number, place, Refuses};
+ghost use Rattle.model.specs.declared.Verdict.the-variants.{Refused};
+
+pub mod limits;
+pub mod places;
+pub mod rows;
+pub mod units;
 
 // Sizes count bytes, costs count cycles; no sum takes one of each.
 pub struct Bytes(pub u64);
@@ -29,38 +35,41 @@ pub struct Loop {
     pub bound: u64,
 }
 
+// A problem as its numbers, in file order.
+pub type Numbers = [u64; places::END];
+
 // The items past a list's count are spare places.
 pub struct Problem {
     pub scratchpad: Bytes,
     pub function_count: usize,
-    pub functions: [Function; 32],
+    pub functions: [Function; places::MOST_FUNCTIONS],
     pub vertex_count: usize,
-    pub vertices: [Vertex; 128],
+    pub vertices: [Vertex; places::MOST_VERTICES],
     pub edge_count: usize,
-    pub edges: [Edge; 512],
+    pub edges: [Edge; places::MOST_EDGES],
     pub loop_count: usize,
-    pub loops: [Loop; 32],
+    pub loops: [Loop; places::MOST_LOOPS],
 }
 
 // Why an operation refuses, each with its place. In the order of document 01's numbers, 1 to 17.
 pub enum Refusal {
-    Ended(u64),
+    EndsEarly(u64),
     Misspelt(u64),
     OutOfRange(u64),
     NotAscending(u64),
     LeftOver(u64),
-    LacksEdge(u64),
-    BadRange(u64),
+    MissingEdge(u64),
+    WrongLoop(u64),
     WrongEdge(u64),
-    NoReturn(u64),
-    ShortBuffer(u64),
-    LongLayout(u64),
+    NoEdgeBack(u64),
+    BufferTooShort(u64),
+    LayoutTooLong(u64),
     UnknownRegion(u64),
-    ScratchpadFull(u64),
-    PastLimit(u64),
-    BadStep(u64),
-    PastBound(u64),
-    LongWalk(u64),
+    ScratchpadTooSmall(u64),
+    BoundTooLarge(u64),
+    WrongStep(u64),
+    BeyondBound(u64),
+    WalkTooLong(u64),
 }
 
 // What a check without a result says.
@@ -84,15 +93,16 @@ pub struct Field {
 }
 
 // What going through the fields finds: the position after the last one, or the refusal.
-pub enum Fields {
+pub enum FieldsAnswer {
     Done(usize),
     Refused(Refusal),
 }
 
-// Read's result. The problem stands beside the verdict since an enum that holds an array is not to be had; beside a refusal it is all zero.
-pub struct ReadAnswer {
-    pub verdict: Verdict,
-    pub problem: Problem,
+// Read's result: the problem that the file holds. The borrow checker covers no function over an enum that holds an array, so `file::read`, which makes
+// one, is proved by hand, and an operation on a file goes on from the file's numbers (`file::read_numbers`).
+pub enum ReadAnswer {
+    Accepted(Problem),
+    Refused(Refusal),
 }
 
 // Write's result: the bytes written.
@@ -121,22 +131,16 @@ pub enum BoundAnswer {
     Refused(Refusal),
 }
 
-// What Run gives beside the regions: cycles, and the loads counted as they occur.
+// What Run gives beside the regions, which it leaves in an array that its caller lends: cycles, and the loads counted as they occur.
 pub struct Run {
     pub cycles: Cycles,
     pub loads: u64,
 }
 
-pub enum RunVerdict {
+// Run's result.
+pub enum RunAnswer {
     Ran(Run),
     Refused(Refusal),
-}
-
-// Run's result, with the function held in each region, 255 for none. The regions stand beside the verdict as Read's problem does; beside a refusal
-// they are all zero.
-pub struct RunAnswer {
-    pub verdict: RunVerdict,
-    pub held: [u8; 32],
 }
 
 // The refusal's number in document 01.
@@ -144,23 +148,23 @@ pub fn number_of(refusal: Refusal) -> u32
     ensures { λ r. ⌜ r ≡ number refusal ⌝ }
 {
     match refusal {
-        Refusal::Ended(_) => 1,
+        Refusal::EndsEarly(_) => 1,
         Refusal::Misspelt(_) => 2,
         Refusal::OutOfRange(_) => 3,
         Refusal::NotAscending(_) => 4,
         Refusal::LeftOver(_) => 5,
-        Refusal::LacksEdge(_) => 6,
-        Refusal::BadRange(_) => 7,
+        Refusal::MissingEdge(_) => 6,
+        Refusal::WrongLoop(_) => 7,
         Refusal::WrongEdge(_) => 8,
-        Refusal::NoReturn(_) => 9,
-        Refusal::ShortBuffer(_) => 10,
-        Refusal::LongLayout(_) => 11,
+        Refusal::NoEdgeBack(_) => 9,
+        Refusal::BufferTooShort(_) => 10,
+        Refusal::LayoutTooLong(_) => 11,
         Refusal::UnknownRegion(_) => 12,
-        Refusal::ScratchpadFull(_) => 13,
-        Refusal::PastLimit(_) => 14,
-        Refusal::BadStep(_) => 15,
-        Refusal::PastBound(_) => 16,
-        Refusal::LongWalk(_) => 17,
+        Refusal::ScratchpadTooSmall(_) => 13,
+        Refusal::BoundTooLarge(_) => 14,
+        Refusal::WrongStep(_) => 15,
+        Refusal::BeyondBound(_) => 16,
+        Refusal::WalkTooLong(_) => 17,
     }
 }
 
@@ -169,32 +173,33 @@ pub fn place_of(refusal: Refusal) -> u64
     ensures { λ r. ⌜ r ≡ place refusal ⌝ }
 {
     match refusal {
-        Refusal::Ended(at)
+        Refusal::EndsEarly(at)
         | Refusal::Misspelt(at)
         | Refusal::OutOfRange(at)
         | Refusal::NotAscending(at)
         | Refusal::LeftOver(at)
-        | Refusal::LacksEdge(at)
-        | Refusal::BadRange(at)
+        | Refusal::MissingEdge(at)
+        | Refusal::WrongLoop(at)
         | Refusal::WrongEdge(at)
-        | Refusal::NoReturn(at)
-        | Refusal::ShortBuffer(at)
-        | Refusal::LongLayout(at)
+        | Refusal::NoEdgeBack(at)
+        | Refusal::BufferTooShort(at)
+        | Refusal::LayoutTooLong(at)
         | Refusal::UnknownRegion(at)
-        | Refusal::ScratchpadFull(at)
-        | Refusal::PastLimit(at)
-        | Refusal::BadStep(at)
-        | Refusal::PastBound(at)
-        | Refusal::LongWalk(at) => at,
+        | Refusal::ScratchpadTooSmall(at)
+        | Refusal::BoundTooLarge(at)
+        | Refusal::WrongStep(at)
+        | Refusal::BeyondBound(at)
+        | Refusal::WalkTooLong(at) => at,
     }
 }
 
-// The refusal that a verdict holds.
+// The refusal that a verdict holds, where it refuses. No refusal is invented for the other case: it is never met, and the call that stands there never made.
 pub fn refusal_in(verdict: Verdict) -> Refusal
-    ensures { λ r. ⌜ r ≡ refusalIn verdict ⌝ }
+    requires { ⌜ Refuses verdict ⌝ }
+    ensures { λ r. ⌜ verdict ≡ Refused r ⌝ }
 {
     match verdict {
         Verdict::Refused(refusal) => refusal,
-        Verdict::Accepted => Refusal::Ended(0),
+        Verdict::Accepted => refusal_in(verdict),
     }
 }

@@ -11,16 +11,16 @@ use Rattle.model.proofs.Lists.{is-table}
 
 module _ {A : Type 0} (f : ℕ → A) where
   -- An array whose first i items are the table's.
-  pub record Filled (n i : ℕ) (d : A) (out : List A) : Type 0 where
+  pub record FilledTo (n i : ℕ) (d : A) (out : List A) : Type 0 where
     pub within : i ≤ n
     pub long : length out ≡ n
     pub first : (k : ℕ) → k < i → getD out k d ≡ f k
 
-  pub filled-none : (n : ℕ) (d : A) → Filled n 0 d (replicate n d)
+  pub filled-none : (n : ℕ) (d : A) → FilledTo n 0 d (replicate n d)
   filled-none n d =
       record { within = omega arith; long = length-replicate n d; first = below-none (λ (k : ℕ). getD (replicate n d) k d ≡ f k) }
 
-  pub filled-more : (n i : ℕ) (d : A) (out : List A) → i < n → Filled n i d out → Filled n (i + 1) d (set out i (f i))
+  pub filled-more : (n i : ℕ) (d : A) (out : List A) → i < n → FilledTo n i d out → FilledTo n (i + 1) d (set out i (f i))
   filled-more n i d out h filled =
       record {
         within = omega arith;
@@ -31,5 +31,5 @@ module _ {A : Type 0} (f : ℕ → A) where
             (getD-set-same out i (f i) d (omega (arith, filled .long)));
       }
 
-  pub filled-all : (n i : ℕ) (d : A) (out : List A) → n ≤ i → Filled n i d out → out ≡ table n f
+  pub filled-all : (n i : ℕ) (d : A) (out : List A) → n ≤ i → FilledTo n i d out → out ≡ table n f
   filled-all n i d out h filled = is-table n f d out (filled .long) (λ k lt. filled .first k (omega arith))

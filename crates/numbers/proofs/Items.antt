@@ -3,11 +3,11 @@ use Prim.Native.Nat.{ℕ, zero, suc, _+_, _*_, _≤_, _<_}
 use mathlib.Core.Path.{_≡_, refl, sym, ap, _∙_}
 use mathlib.Core.List.{List, [], _∷_, _++_, flatMap, append-assoc}
 use native.Mathlib.Omega.{arith}
-use native.Mathlib.Nat.{le-of-suc-le-suc, mul-suc, suc-add}
-use lib.ListN.{length, getD, drop, List·getD-append}
-use lib.Seq.{drop-drop, drop-at, drop-cons, getD-drop, getD-append-add}
+use native.Mathlib.Nat.{le-of-suc-le-suc, mul-le-mul-left, mul-suc}
+use lib.ListN.{length, getD, take, drop, length-drop, take-append-drop, List·getD-append}
+use lib.Seq.{drop-drop, drop-at, drop-cons, getD-take, getD-drop, getD-append-add, length-take-le, ext-getD}
+use borrow.Author.Count.{below-none, below-more}
 use Rattle.model.specs.Numbers.{table, tableFrom}
-use Rattle.numbers.proofs.Places.{two, three}
 
 -- What stands behind a part of a list.
 pub drop-behind : (l xs ys : List ℕ) (i j : ℕ) → drop i l ≡ xs ++ ys → i + length xs ≡ j → drop j l ≡ ys
@@ -44,49 +44,49 @@ module _ {A : Type 0} (f : A → List ℕ) (w : ℕ) (wide : (a : A) → length 
       ∙ ap (λ (r : List ℕ). getD r (w * i + j) 0) e
       ∙ getD-flatMap xs ys i j d h h′
 
-module _ {A : Type 0} (f : A → List ℕ) (w : ℕ) (l : List ℕ) (base : ℕ) (at : ℕ → A) (n : ℕ) where
-  -- Items that have the numbers of l from the base on.
-  Follows : Type 0
-  Follows = (k : ℕ) → k < n → f (at k) ++ drop (base + w * (k + 1)) l ≡ drop (base + w * k) l
+-- A table of items that have the numbers of l from the base on, w each.
+module _ {A : Type 0} (f : A → List ℕ) (w : ℕ) (wide : (a : A) → length (f a) ≡ w) (l : List ℕ) (base : ℕ) (at : ℕ → A) where
+  abbrev Same : Type 0
+  Same = (k j : ℕ) → j < w → getD (f (at k)) j 0 ≡ getD l ((j + base) + w * k) 0
 
-  flat-from : Follows → (m i : ℕ) → i + m ≡ n → flatMap f (tableFrom m i at) ++ drop (base + w * n) l ≡ drop (base + w * i) l
-  unfolding flatMap tableFrom Follows
-  flat-from follows zero i e = ap (λ (k : ℕ). drop (base + w * k) l) (omega arith)
-  flat-from follows (suc m) i e =
-      append-assoc (f (at i)) (flatMap f (tableFrom m (i + 1) at)) (drop (base + w * n) l)
-      ∙ ap (λ (r : List ℕ). f (at i) ++ r) (flat-from follows m (i + 1) (omega arith))
-      ∙ follows i (omega arith)
+  -- One item and what stands behind it.
+  one-item : Same → (k : ℕ) → base + w * k + w ≤ length l → f (at k) ++ drop (base + w * (k + 1)) l ≡ drop (base + w * k) l
+  one-item same k fits =
+      let here : ℕ = base + w * k in
+      let long : length (take w (drop here l)) ≡ w = length-take-le w (drop here l) (simp length-drop (omega arith)) in
+      let is : f (at k) ≡ take w (drop here l) =
+      ext-getD 0 (f (at k)) (take w (drop here l)) (wide (at k) ∙ sym long)
+      (λ j h.
+      let lt : j < w = omega (arith, wide (at k)) in
+      same k j lt ∙ ap (λ (i : ℕ). getD l i 0) (omega arith) ∙ sym (getD-take w (drop here l) j 0 lt ∙ getD-drop here l j 0)) in
+      let next : base + w * (k + 1) ≡ here + w = omega (arith, mul-suc w k) in
+      ap (λ (r : List ℕ). r ++ drop (base + w * (k + 1)) l) is
+      ∙ ap (λ (r : List ℕ). take w (drop here l) ++ r) (ap (λ (i : ℕ). drop i l) next ∙ sym (drop-drop w here l))
+      ∙ take-append-drop w (drop here l)
 
-  flat-table : Follows → flatMap f (table n at) ++ drop (base + w * n) l ≡ drop base l
-  flat-table follows =
-      let start : base + w * 0 ≡ base = omega arith in
-      flat-from follows n 0 (omega arith) ∙ ap (λ (k : ℕ). drop k l) start
+  module _ (same : Same) (n : ℕ) (fits : base + w * n ≤ length l) where
+    flat-from : (m i : ℕ) → i + m ≡ n → flatMap f (tableFrom m i at) ++ drop (base + w * n) l ≡ drop (base + w * i) l
+    unfolding flatMap tableFrom
+    flat-from zero i e = ap (λ (k : ℕ). drop (base + w * k) l) (omega arith)
+    flat-from (suc m) i e =
+        let few : i + 1 ≤ n = omega arith in
+        append-assoc (f (at i)) (flatMap f (tableFrom m (i + 1) at)) (drop (base + w * n) l)
+        ∙ ap (λ (r : List ℕ). f (at i) ++ r) (flat-from m (i + 1) (omega arith))
+        ∙ one-item same i (omega (arith, mul-le-mul-left w few, mul-suc w i))
+
+    pub flat-table : flatMap f (table n at) ++ drop (base + w * n) l ≡ drop base l
+    flat-table =
+        let start : base + w * 0 ≡ base = omega arith in
+        flat-from n 0 (omega arith) ∙ ap (λ (k : ℕ). drop k l) start
+
+-- The numbers of an item are told one by one.
+module _ (P : ℕ → ℕ → Type 0) (first : (k : ℕ) → P k 0) (second : (k : ℕ) → P k 1) where
+  pub two-numbers : (k j : ℕ) → j < 2 → P k j
+  two-numbers k = below-more (P k) 1 (below-more (P k) 0 (below-none (P k)) (first k)) (second k)
+
+  pub three-numbers : ((k : ℕ) → P k 2) → (k j : ℕ) → j < 3 → P k j
+  three-numbers third k = below-more (P k) 2 (two-numbers k) (third k)
 
 -- A number before what stands behind it.
 pub cons-drop : (l : List ℕ) (k x : ℕ) (ys : List ℕ) → k < length l → x ≡ getD l k 0 → ys ≡ drop (suc k) l → x ∷ ys ≡ drop k l
 cons-drop l k x ys h e e′ = (λ i. e i ∷ e′ i) ∙ sym (drop-cons l k 0 h)
-
-module _ {A : Type 0} (first second : A → ℕ) (l : List ℕ) (base : ℕ) (at : ℕ → A) where
-  module _ (is-first : (k : ℕ) → first (at k) ≡ getD l (base + 2 * k) 0) (is-second : (k : ℕ) → second (at k) ≡ getD l (suc base + 2 * k) 0) where
-    pub two-table : (n : ℕ) → base + 2 * n ≤ length l → flatMap (two first second) (table n at) ++ drop (base + 2 * n) l ≡ drop base l
-    unfolding Follows
-    two-table n fits =
-        flat-table (two first second) 2 l base at n
-        (λ k h.
-        let next : base + 2 * (k + 1) ≡ suc (suc (base + 2 * k)) = omega arith in
-        cons-drop l (base + 2 * k) _ _ (omega arith) (is-first k)
-        (cons-drop l (suc (base + 2 * k)) _ _ (omega arith) (is-second k ∙ ap (λ (m : ℕ). getD l m 0) (suc-add base (2 * k)))
-        (ap (λ (m : ℕ). drop m l) next)))
-
-  module _ (third : A → ℕ) (is-first : (k : ℕ) → first (at k) ≡ getD l (base + 3 * k) 0) (is-second : (k : ℕ) → second (at k) ≡ getD l (suc base + 3 * k) 0) (is-third : (k : ℕ) → third (at k) ≡ getD l (suc (suc base) + 3 * k) 0) where
-    pub three-table : (n : ℕ) → base + 3 * n ≤ length l → flatMap (three first second third) (table n at) ++ drop (base + 3 * n) l ≡ drop base l
-    unfolding Follows
-    three-table n fits =
-        flat-table (three first second third) 3 l base at n
-        (λ k h.
-        let next : base + 3 * (k + 1) ≡ suc (suc (suc (base + 3 * k))) = omega arith in
-        cons-drop l (base + 3 * k) _ _ (omega arith) (is-first k)
-        (cons-drop l (suc (base + 3 * k)) _ _ (omega arith) (is-second k ∙ ap (λ (m : ℕ). getD l m 0) (suc-add base (3 * k)))
-        (cons-drop l (suc (suc (base + 3 * k))) _ _ (omega arith)
-        (is-third k ∙ ap (λ (m : ℕ). getD l m 0) (suc-add (suc base) (3 * k) ∙ ap suc (suc-add base (3 * k))))
-        (ap (λ (m : ℕ). drop m l) next))))

@@ -1,5 +1,5 @@
--- A problem's numbers in four parts, each with one list: 67, 257, 1,025 and 97 numbers.
-use Prim.Native.Nat.{ℕ}
+-- A problem's numbers in four parts, each with one list and its count.
+use Prim.Native.Nat.{ℕ, _-_}
 use mathlib.Core.Path.{_≡_, refl}
 use mathlib.Core.List.{List, _∷_, _++_, flatMap}
 use native.Mathlib.Omega.{arith}
@@ -7,6 +7,7 @@ use lib.ListN.{length}
 use Rattle.model.specs.declared.Problem.{Problem}
 use Rattle.model.specs.Numbers.{functionNumbers, vertexNumbers, edgeNumbers, loopNumbers, numbersOf, Sized}
 use Rattle.numbers.proofs.Places.{length-flatMap}
+use Rattle.model.specs.Places as places
 
 module _ (p : Problem) where
   abbrev pub functionPart : List ℕ
@@ -26,16 +27,16 @@ module _ (p : Problem) where
   in-parts = refl
 
   pub record Lengths : Type 0 where
-    pub functions : length functionPart ≡ 67
-    pub vertices : length vertexPart ≡ 257
-    pub edges : length edgePart ≡ 1025
-    pub loops : length loopPart ≡ 97
+    pub functions : length functionPart ≡ places.vertexCount
+    pub vertices : length vertexPart ≡ places.edgeCount - places.vertexCount
+    pub edges : length edgePart ≡ places.loopCount - places.edgeCount
+    pub loops : length loopPart ≡ places.end - places.loopCount
 
   pub lengths : Sized p → Lengths
   lengths sized =
       record {
-        functions = omega (arith, length-flatMap functionNumbers 2 (λ a. refl) (p .functions));
-        vertices = omega (arith, length-flatMap vertexNumbers 2 (λ a. refl) (p .vertices));
-        edges = omega (arith, length-flatMap edgeNumbers 2 (λ a. refl) (p .edges));
-        loops = omega (arith, length-flatMap loopNumbers 3 (λ a. refl) (p .loops));
+        functions = omega (arith, length-flatMap functionNumbers places.functionWidth (λ a. refl) (p .functions));
+        vertices = omega (arith, length-flatMap vertexNumbers places.vertexWidth (λ a. refl) (p .vertices));
+        edges = omega (arith, length-flatMap edgeNumbers places.edgeWidth (λ a. refl) (p .edges));
+        loops = omega (arith, length-flatMap loopNumbers places.loopWidth (λ a. refl) (p .loops));
       }

@@ -1,109 +1,84 @@
-// A problem as its numbers at 1,446 fixed places in file order, and back.
+// A problem as its numbers at fixed places in file order, and back.
 use model::Bytes;
 use model::Cycles;
 use model::Edge;
 use model::Function;
 use model::Loop;
+use model::Numbers;
 use model::Problem;
 use model::Vertex;
+use model::places;
 ghost use mathlib.Core.Path.{_≡_};
-ghost use Rattle.model.specs.Zero.{zeroProblem};
+ghost use Rattle.model.specs.Places as spot;
 ghost use Rattle.model.specs.Numbers.{table, functionAt, vertexAt, edgeAt, loopAt, problemOf, functionNumbers, vertexNumbers, edgeNumbers, loopNumbers};
 ghost use Rattle.numbers.specs.Numbered.{Numbered, Stored};
 
-// A problem with every place zero.
-pub fn zero_problem() -> Problem
-    ensures { λ r. ⌜ r ≡ zeroProblem ⌝ }
-{
-    Problem {
-        scratchpad: Bytes(0),
-        function_count: 0,
-        functions: [Function {
-            size: Bytes(0),
-            load: Cycles(0),
-        }; 32],
-        vertex_count: 0,
-        vertices: [Vertex {
-            function: 0,
-            cost: Cycles(0),
-        }; 128],
-        edge_count: 0,
-        edges: [Edge { from: 0, to: 0 }; 512],
-        loop_count: 0,
-        loops: [Loop {
-            header: 0,
-            last: 0,
-            bound: 0,
-        }; 32],
-    }
-}
-
 // Each list read from its places, item by item.
-fn functions_of(l: &[u64; 1446]) -> [Function; 32]
-    ensures { λ r. ⌜ r ≡ table 32 (functionAt (now (l .entry))) ⌝ }
+fn functions_of(l: &Numbers) -> [Function; places::MOST_FUNCTIONS]
+    ensures { λ r. ⌜ r ≡ table spot.mostFunctions (functionAt (now (l .entry))) ⌝ }
 {
     let mut out = [Function {
         size: Bytes(0),
         load: Cycles(0),
-    }; 32];
+    }; places::MOST_FUNCTIONS];
     let mut i: usize = 0;
-    while i < 32 {
+    while i < places::MOST_FUNCTIONS {
         out[i] = Function {
-            size: Bytes(l[3 + 2 * i]),
-            load: Cycles(l[4 + 2 * i]),
+            size: Bytes(l[places::SIZE + places::FUNCTION_WIDTH * i]),
+            load: Cycles(l[places::LOAD + places::FUNCTION_WIDTH * i]),
         };
         i += 1;
     }
     out
 }
 
-fn vertices_of(l: &[u64; 1446]) -> [Vertex; 128]
-    ensures { λ r. ⌜ r ≡ table 128 (vertexAt (now (l .entry))) ⌝ }
+fn vertices_of(l: &Numbers) -> [Vertex; places::MOST_VERTICES]
+    ensures { λ r. ⌜ r ≡ table spot.mostVertices (vertexAt (now (l .entry))) ⌝ }
 {
     let mut out = [Vertex {
         function: 0,
         cost: Cycles(0),
-    }; 128];
+    }; places::MOST_VERTICES];
     let mut i: usize = 0;
-    while i < 128 {
+    while i < places::MOST_VERTICES {
         out[i] = Vertex {
-            function: l[68 + 2 * i] as usize,
-            cost: Cycles(l[69 + 2 * i]),
+            function: l[places::FUNCTION + places::VERTEX_WIDTH * i] as usize,
+            cost: Cycles(l[places::COST + places::VERTEX_WIDTH * i]),
         };
         i += 1;
     }
     out
 }
 
-fn edges_of(l: &[u64; 1446]) -> [Edge; 512]
-    ensures { λ r. ⌜ r ≡ table 512 (edgeAt (now (l .entry))) ⌝ }
+fn edges_of(l: &Numbers) -> [Edge; places::MOST_EDGES]
+    ensures { λ r. ⌜ r ≡ table spot.mostEdges (edgeAt (now (l .entry))) ⌝ }
 {
-    let mut out = [Edge { from: 0, to: 0 }; 512];
+    let mut out = [Edge { from: 0, to: 0 }; places::MOST_EDGES];
     let mut i: usize = 0;
-    while i < 512 {
+    while i < places::MOST_EDGES {
         out[i] = Edge {
-            from: l[325 + 2 * i] as usize,
-            to: l[326 + 2 * i] as usize,
+            from: l[places::FROM + places::EDGE_WIDTH * i] as usize,
+            to: l[places::TO + places::EDGE_WIDTH * i] as usize,
         };
         i += 1;
     }
     out
 }
 
-pub fn loops_of(l: &[u64; 1446]) -> [Loop; 32]
-    ensures { λ r. ⌜ r ≡ table 32 (loopAt (now (l .entry))) ⌝ }
+pub fn loops_of(l: &Numbers) -> [Loop; places::MOST_LOOPS]
+    ensures { λ r. ⌜ r ≡ table spot.mostLoops (loopAt (now (l .entry))) ⌝ }
 {
     let mut out = [Loop {
         header: 0,
         last: 0,
         bound: 0,
-    }; 32];
+    }; places::MOST_LOOPS];
     let mut i: usize = 0;
-    while i < 32 {
+    while i < places::MOST_LOOPS {
         out[i] = Loop {
-            header: l[1350 + 3 * i] as usize,
-            last: l[1351 + 3 * i] as usize,
-            bound: l[1352 + 3 * i],
+            header: l[places::HEADER + places::LOOP_WIDTH * i] as usize,
+            last: l[places::LAST + places::LOOP_WIDTH * i] as usize,
+            bound: l[places::BOUND + places::LOOP_WIDTH * i],
         };
         i += 1;
     }
@@ -111,7 +86,7 @@ pub fn loops_of(l: &[u64; 1446]) -> [Loop; 32]
 }
 
 // The problem that the numbers at the places say.
-pub fn problem_of(l: &[u64; 1446]) -> Problem
+pub fn problem_of(l: &Numbers) -> Problem
     ensures { λ r. ⌜ r ≡ problemOf (now (l .entry)) ⌝ }
 {
     let functions = functions_of(l);
@@ -119,85 +94,85 @@ pub fn problem_of(l: &[u64; 1446]) -> Problem
     let edges = edges_of(l);
     let loops = loops_of(l);
     Problem {
-        scratchpad: Bytes(l[1]),
-        function_count: l[2] as usize,
+        scratchpad: Bytes(l[places::SCRATCHPAD]),
+        function_count: l[places::FUNCTION_COUNT] as usize,
         functions: functions,
-        vertex_count: l[67] as usize,
+        vertex_count: l[places::VERTEX_COUNT] as usize,
         vertices: vertices,
-        edge_count: l[324] as usize,
+        edge_count: l[places::EDGE_COUNT] as usize,
         edges: edges,
-        loop_count: l[1349] as usize,
+        loop_count: l[places::LOOP_COUNT] as usize,
         loops: loops,
     }
 }
 
 // Each list stored at its places, item by item.
-fn put_functions(l: &mut [u64; 1446], functions: [Function; 32])
-    ensures { λ r. ⌜ Stored functionNumbers 32 3 functions (now (l .entry)) (now (l .exit)) ⌝ }
+fn put_functions(l: &mut Numbers, functions: [Function; places::MOST_FUNCTIONS])
+    ensures { λ r. ⌜ Stored functionNumbers spot.mostFunctions spot.size functions (now (l .entry)) (now (l .exit)) ⌝ }
 {
     let mut i: usize = 0;
-    while i < 32 {
+    while i < places::MOST_FUNCTIONS {
         let f = functions[i];
-        l[3 + 2 * i] = f.size.0;
-        l[4 + 2 * i] = f.load.0;
+        l[places::SIZE + places::FUNCTION_WIDTH * i] = f.size.0;
+        l[places::LOAD + places::FUNCTION_WIDTH * i] = f.load.0;
         i += 1;
     }
 }
 
-fn put_vertices(l: &mut [u64; 1446], vertices: [Vertex; 128])
-    ensures { λ r. ⌜ Stored vertexNumbers 128 68 vertices (now (l .entry)) (now (l .exit)) ⌝ }
+fn put_vertices(l: &mut Numbers, vertices: [Vertex; places::MOST_VERTICES])
+    ensures { λ r. ⌜ Stored vertexNumbers spot.mostVertices spot.function vertices (now (l .entry)) (now (l .exit)) ⌝ }
 {
     let mut i: usize = 0;
-    while i < 128 {
+    while i < places::MOST_VERTICES {
         let v = vertices[i];
-        l[68 + 2 * i] = v.function as u64;
-        l[69 + 2 * i] = v.cost.0;
+        l[places::FUNCTION + places::VERTEX_WIDTH * i] = v.function as u64;
+        l[places::COST + places::VERTEX_WIDTH * i] = v.cost.0;
         i += 1;
     }
 }
 
-fn put_edges(l: &mut [u64; 1446], edges: [Edge; 512])
-    ensures { λ r. ⌜ Stored edgeNumbers 512 325 edges (now (l .entry)) (now (l .exit)) ⌝ }
+fn put_edges(l: &mut Numbers, edges: [Edge; places::MOST_EDGES])
+    ensures { λ r. ⌜ Stored edgeNumbers spot.mostEdges spot.from edges (now (l .entry)) (now (l .exit)) ⌝ }
 {
     let mut i: usize = 0;
-    while i < 512 {
+    while i < places::MOST_EDGES {
         let e = edges[i];
-        l[325 + 2 * i] = e.from as u64;
-        l[326 + 2 * i] = e.to as u64;
+        l[places::FROM + places::EDGE_WIDTH * i] = e.from as u64;
+        l[places::TO + places::EDGE_WIDTH * i] = e.to as u64;
         i += 1;
     }
 }
 
-fn put_loops(l: &mut [u64; 1446], loops: [Loop; 32])
-    ensures { λ r. ⌜ Stored loopNumbers 32 1350 loops (now (l .entry)) (now (l .exit)) ⌝ }
+fn put_loops(l: &mut Numbers, loops: [Loop; places::MOST_LOOPS])
+    ensures { λ r. ⌜ Stored loopNumbers spot.mostLoops spot.header loops (now (l .entry)) (now (l .exit)) ⌝ }
 {
     let mut i: usize = 0;
-    while i < 32 {
+    while i < places::MOST_LOOPS {
         let o = loops[i];
-        l[1350 + 3 * i] = o.header as u64;
-        l[1351 + 3 * i] = o.last as u64;
-        l[1352 + 3 * i] = o.bound;
+        l[places::HEADER + places::LOOP_WIDTH * i] = o.header as u64;
+        l[places::LAST + places::LOOP_WIDTH * i] = o.last as u64;
+        l[places::BOUND + places::LOOP_WIDTH * i] = o.bound;
         i += 1;
     }
 }
 
 // The problem's numbers at their places. An array field's length is known once it is passed by value.
-pub fn numbers_of(p: Problem) -> [u64; 1446]
+pub fn numbers_of(p: Problem) -> Numbers
     ensures { λ r. ⌜ Numbered p r ⌝ }
 {
-    let mut l = [0u64; 1446];
-    l[0] = 1;
-    l[1] = p.scratchpad.0;
-    l[2] = p.function_count as u64;
+    let mut l = [0u64; places::END];
+    l[places::EDITION] = 1;
+    l[places::SCRATCHPAD] = p.scratchpad.0;
+    l[places::FUNCTION_COUNT] = p.function_count as u64;
     let functions = p.functions;
     put_functions(&mut l, functions);
-    l[67] = p.vertex_count as u64;
+    l[places::VERTEX_COUNT] = p.vertex_count as u64;
     let vertices = p.vertices;
     put_vertices(&mut l, vertices);
-    l[324] = p.edge_count as u64;
+    l[places::EDGE_COUNT] = p.edge_count as u64;
     let edges = p.edges;
     put_edges(&mut l, edges);
-    l[1349] = p.loop_count as u64;
+    l[places::LOOP_COUNT] = p.loop_count as u64;
     let loops = p.loops;
     put_loops(&mut l, loops);
     l

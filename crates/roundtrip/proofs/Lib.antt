@@ -1,5 +1,4 @@
-pub mod Agree
-pub mod Turns
+pub mod Ends
 pub mod Reading
 pub mod Writing
 pub mod Prefix

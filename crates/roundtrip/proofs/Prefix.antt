@@ -11,14 +11,14 @@ use borrow.Author.Tests.{lt-ltb, leb-true, leb-false}
 use Rattle.model.specs.declared.Number.{Number}
 use Rattle.model.specs.declared.Number.the-variants.{Value, Ended, Misspelt}
 use Rattle.model.specs.declared.Field.{Field}
-use Rattle.model.specs.declared.Fields.{Fields}
-use Rattle.model.specs.declared.Fields.the-variants.{Done, Refused}
+use Rattle.model.specs.declared.FieldsAnswer.{FieldsAnswer}
+use Rattle.model.specs.declared.FieldsAnswer.the-variants.{Done, Refused}
 use Rattle.model.specs.Spelling.{readNumber}
 use Rattle.model.specs.File.{numberCount, readLength, firstField, atEnd, nextField, itemStart, Scan, scanned, readFrom}
 use Rattle.model.specs.Operations.{readRest, readFile}
 use Rattle.model.proofs.Cases.{by-bool}
 use Rattle.spelling.proofs.Prefix.{number-prefix, number-ends, never-ended}
-use Rattle.roundtrip.proofs.Turns.{Reads, reads}
+use Rattle.facts.proofs.Turns.{Reads, reads}
 
 -- Reading ends at most five bytes on for each field.
 reads-near : {s : List ℕ} {n at start : ℕ} {c : Field} {l : List ℕ} {end : ℕ} {m : List ℕ} → Reads s n at start c l end m → end ≤ at + 5 * n
@@ -48,7 +48,7 @@ module _ (s : List ℕ) (k : ℕ) (cut : k ≤ length s) where
       (readNumber s at) refl)
 
   -- Where reading is done before k, bytes are left over in both.
-  rest-same : (a : Fields) (l : List ℕ) → ((at : ℕ) → a ≡ Done at → at < k) → readRest k a l ≡ readRest (length s) a l
+  rest-same : (a : FieldsAnswer) (l : List ℕ) → ((at : ℕ) → a ≡ Done at → at < k) → readRest k a l ≡ readRest (length s) a l
   rest-same (Done at) l below =
       let h : at < k = below at refl in
       simp (lt-ltb at k h, lt-ltb at (length s) (omega arith))
@@ -61,7 +61,7 @@ module _ (s : List ℕ) (k : ℕ) (cut : k ≤ length s) where
       let x : Scan = readFrom n s 0 0 firstField z in
       rw (scan-prefix n 0 0 firstField z (omega arith), length-take-le k s cut)
       (rest-same (x .answer) (x .numbers)
-      (λ at q. let e : x ≡ scanned (Done at) (x .numbers) = ap (λ (a : Fields). scanned a (x .numbers)) q in
+      (λ at q. let e : x ≡ scanned (Done at) (x .numbers) = ap (λ (a : FieldsAnswer). scanned a (x .numbers)) q in
       omega (arith, reads-near (reads s at (x .numbers) n 0 0 firstField z e))))
 
 -- A file cut off after the bytes that reading may look at is read alike.

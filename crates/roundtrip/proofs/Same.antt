@@ -6,7 +6,7 @@ use mathlib.Core.Bool.{true}
 use native.Mathlib.Omega.{arith}
 use lib.ListN.{getD, take}
 use lib.Seq.{ext-getD}
-use Rattle.model.specs.declared.Fields.the-variants.{Done}
+use Rattle.model.specs.declared.FieldsAnswer.the-variants.{Done}
 use Rattle.model.specs.declared.Problem.{Problem}
 use Rattle.model.specs.Zero.{bytes, cycles}
 use Rattle.model.specs.Table.{bases, base}
@@ -18,8 +18,10 @@ use Rattle.model.proofs.Lists.{length-take-table, getD-take-table}
 use Rattle.numbers.proofs.Inverse.{problem-of-numbers}
 use Rattle.facts.proofs.Items.{Listed}
 use Rattle.facts.proofs.Lists as lists
-use Rattle.facts.proofs.Facts.{FieldFacts, field-facts}
+use Rattle.facts.specs.Fields.{FieldFacts}
+use Rattle.facts.proofs.Facts.{field-facts}
 use Rattle.facts.proofs.Cleared.{cleared-used}
+use Rattle.model.specs.Places as places
 
 -- The verdict on the graph is on the vertices' number, the edges and the loops alone.
 pub same-judged : {p q : Problem} → SameProblem p q → judgeGraph p ≡ judgeGraph q
@@ -36,9 +38,9 @@ same-items room count count′ f g h e same =
     getD-take-table count room f i (f 0) h below ∙ same i below ∙ sym (getD-take-table count room g i (f 0) h below)))
 
 -- Numbers m that are those of l wherever l has a place in use.
-module _ (l m : List ℕ) (facts : FieldFacts l) (kept : (k : ℕ) → inUse l k ≡ true → k < 1446 → getD l k 0 ≡ getD m k 0) where
+module _ (l m : List ℕ) (facts : FieldFacts l) (kept : (k : ℕ) → inUse l k ≡ true → k < places.end → getD l k 0 ≡ getD m k 0) where
   -- A list's count and its items' numbers.
-  list-kept : {row width : ℕ} → Listed l row width → base row + width * getD l (base row) 0 < 1446 →
+  list-kept : {row width : ℕ} → Listed l row width → base row + width * getD l (base row) 0 < places.end →
       (k : ℕ) → base row ≤ k → k ≤ base row + width * getD l (base row) 0 → getD l k 0 ≡ getD m k 0
   list-kept list room k low high = kept k (list .used k low high) (omega arith)
 
@@ -49,44 +51,44 @@ module _ (l m : List ℕ) (facts : FieldFacts l) (kept : (k : ℕ) → inUse l k
       let vertex = list-kept (lists.vertices l (facts .functions)) (omega (arith, facts .vertices)) in
       let edge = list-kept (lists.edges l (facts .functions) (facts .vertices)) (omega (arith, facts .edges)) in
       let loop = list-kept (lists.loops l (facts .functions) (facts .vertices) (facts .edges)) (omega (arith, facts .loops)) in
-      let functions : getD l 2 0 ≡ getD m 2 0 = function 2 (omega arith) (omega arith) in
-      let vertices : getD l 67 0 ≡ getD m 67 0 = vertex 67 (omega arith) (omega arith) in
-      let edges : getD l 324 0 ≡ getD m 324 0 = edge 324 (omega arith) (omega arith) in
-      let loops : getD l 1349 0 ≡ getD m 1349 0 = loop 1349 (omega arith) (omega arith) in
+      let functions : getD l places.functionCount 0 ≡ getD m places.functionCount 0 = function places.functionCount (omega arith) (omega arith) in
+      let vertices : getD l places.vertexCount 0 ≡ getD m places.vertexCount 0 = vertex places.vertexCount (omega arith) (omega arith) in
+      let edges : getD l places.edgeCount 0 ≡ getD m places.edgeCount 0 = edge places.edgeCount (omega arith) (omega arith) in
+      let loops : getD l places.loopCount 0 ≡ getD m places.loopCount 0 = loop places.loopCount (omega arith) (omega arith) in
       record {
-        scratchpad = ap bytes (kept 1 (lists.single l 1 (omega arith)) (omega arith));
+        scratchpad = ap bytes (kept places.scratchpad (lists.single l places.scratchpad (omega arith)) (omega arith));
         «function_count» = functions;
         functions =
-            same-items 32 _ _ (functionAt l) (functionAt m) (facts .functions) functions
+            same-items places.mostFunctions _ _ (functionAt l) (functionAt m) (facts .functions) functions
             (λ i h t.
             record {
-              size = bytes (function (3 + 2 * i) (omega arith) (omega arith) t);
-              load = cycles (function (4 + 2 * i) (omega arith) (omega arith) t);
+              size = bytes (function (places.size + places.functionWidth * i) (omega arith) (omega arith) t);
+              load = cycles (function (places.load + places.functionWidth * i) (omega arith) (omega arith) t);
             });
         «vertex_count» = vertices;
         vertices =
-            same-items 128 _ _ (vertexAt l) (vertexAt m) (facts .vertices) vertices
+            same-items places.mostVertices _ _ (vertexAt l) (vertexAt m) (facts .vertices) vertices
             (λ i h t.
             record {
-              function = vertex (68 + 2 * i) (omega arith) (omega arith) t;
-              cost = cycles (vertex (69 + 2 * i) (omega arith) (omega arith) t);
+              function = vertex (places.function + places.vertexWidth * i) (omega arith) (omega arith) t;
+              cost = cycles (vertex (places.cost + places.vertexWidth * i) (omega arith) (omega arith) t);
             });
         «edge_count» = edges;
         edges =
-            same-items 512 _ _ (edgeAt l) (edgeAt m) (facts .edges) edges
+            same-items places.mostEdges _ _ (edgeAt l) (edgeAt m) (facts .edges) edges
             (λ i h t.
             record {
-              from = edge (325 + 2 * i) (omega arith) (omega arith) t;
-              to = edge (326 + 2 * i) (omega arith) (omega arith) t;
+              from = edge (places.from + places.edgeWidth * i) (omega arith) (omega arith) t;
+              to = edge (places.to + places.edgeWidth * i) (omega arith) (omega arith) t;
             });
         «loop_count» = loops;
         loops =
-            same-items 32 _ _ (loopAt l) (loopAt m) (facts .loops) loops
+            same-items places.mostLoops _ _ (loopAt l) (loopAt m) (facts .loops) loops
             (λ i h t.
             record {
-              header = loop (1350 + 3 * i) (omega arith) (omega arith) t;
-              last = loop (1351 + 3 * i) (omega arith) (omega arith) t;
-              bound = loop (1352 + 3 * i) (omega arith) (omega arith) t;
+              header = loop (places.header + places.loopWidth * i) (omega arith) (omega arith) t;
+              last = loop (places.last + places.loopWidth * i) (omega arith) (omega arith) t;
+              bound = loop (places.bound + places.loopWidth * i) (omega arith) (omega arith) t;
             });
       }
 

@@ -1,28 +1,28 @@
 -- Read and Write undo each other: an accepted file is written again as it was, and a lawful problem, written, is read as itself.
 use Prim.Native.Nat.{ℕ, _+_, _≤_, _<_}
 use mathlib.Core.Path.{_≡_, refl, sym, ap, subst, _∙_}
-use mathlib.Core.List.{List, [], _++_, append-nil}
+use mathlib.Core.List.{List, _++_}
 use native.Mathlib.Omega.{arith}
-use lib.ListN.{length, getD, take, drop, replicate, length-replicate, drop-of-length-le}
+use lib.ListN.{length, getD, take, drop, replicate}
 use lib.Seq.{sets, sets-eq, take-at}
 use borrow.Author.Tests.{le-ltb}
-use Rattle.model.specs.declared.Fields.{Fields}
-use Rattle.model.specs.declared.Fields.the-variants.{Done}
+use Rattle.model.specs.declared.FieldsAnswer.{FieldsAnswer}
+use Rattle.model.specs.declared.FieldsAnswer.the-variants.{Done}
 use Rattle.model.specs.declared.Verdict.{Verdict}
 use Rattle.model.specs.declared.Verdict.the-variants.{Accepted}
 use Rattle.model.specs.declared.Problem.{Problem}
+use Rattle.model.specs.declared.ReadAnswer.the-variants as read
 use Rattle.model.specs.declared.WriteAnswer.{WriteAnswer}
 use Rattle.model.specs.declared.WriteAnswer.the-variants.{Written}
 use Rattle.model.specs.Numbers.{numbersOf, problemOf, Sized}
-use Rattle.model.specs.File.{numberCount, firstField, Scan, scanned, readFields, checkFields, fileBytes, cleared}
+use Rattle.model.specs.File.{numberCount, Scan, scanned, readFields, checkFields, fileBytes, cleared}
 use Rattle.model.specs.Graph.{judgeGraph}
 use Rattle.model.specs.Operations.{readVerdict, readRest, readFile, SameProblem, clearedProblem, checkProblem, writeChecked, writeProblem, afterWrite, writtenBuffer}
-use Rattle.fields.specs.Valid.{edition}
 use Rattle.numbers.proofs.Inverse.{numbers-of-problem, sized-problem}
-use Rattle.facts.proofs.Facts.{field-facts}
+use Rattle.facts.proofs.Judging.{checked-good}
+use Rattle.facts.proofs.Facts.{good-facts}
 use Rattle.facts.proofs.Cleared.{fill-cleared}
-use Rattle.roundtrip.proofs.Turns.{is-judged}
-use Rattle.roundtrip.proofs.Reading.{ReadBack, read-back, FileAgain, file-again}
+use Rattle.roundtrip.proofs.Reading.{FileAgain, file-again}
 use Rattle.roundtrip.proofs.Writing.{ReadAgain, read-again}
 use Rattle.roundtrip.proofs.Same.{same-judged, same-checked}
 use Rattle.roundtrip.proofs.Answers.{Whole, whole, good-problem, is-checked, Roomy, has-room}
@@ -31,7 +31,7 @@ use Rattle.roundtrip.proofs.Answers.{Whole, whole, good-problem, is-che
 module _ (p : Problem) (buf : List ℕ) (need : ℕ) (checked : checkProblem p ≡ Done need) (room : need ≤ length buf) where
   writes : writeProblem p (length buf) ≡ Written need
   unfolding writeProblem
-  writes = ap (λ (f : Fields). writeChecked f (length buf)) checked ∙ simp (le-ltb (length buf) need room)
+  writes = ap (λ (f : FieldsAnswer). writeChecked f (length buf)) checked ∙ simp (le-ltb (length buf) need room)
 
   stores : (s : List ℕ) → fileBytes (numbersOf p) ≡ s → length s ≡ need → writtenBuffer p buf ≡ s ++ drop need buf
   stores s is long =
@@ -54,19 +54,10 @@ pub record Rewritten (s : List ℕ) (p : Problem) (buf : List ℕ) : Type 0 wher
   pub buffer : writtenBuffer p buf ≡ s ++ drop (length s) buf
 
 module _ (s : List ℕ) (byte : (i : ℕ) → getD s i 0 < 256) where
-  -- Where nothing is left over, the fields end with the bytes.
-  ends : (end : ℕ) (l : List ℕ) → length s ≤ end → readFields s ≡ scanned (Done end) l → end ≡ length s
-  ends end l h e =
-      let r : ReadBack numberCount s 0 0 firstField (replicate numberCount 0) end l =
-      read-back s byte numberCount 0 0 firstField (replicate numberCount 0) end l edition (length-replicate {A = ℕ} numberCount 0) e in
-      let none : drop end s ≡ [] = drop-of-length-le s {i = end} h in
-      let is : s ≡ fileBytes l = r .bytes ∙ ap (λ (t : List ℕ). fileBytes l ++ t) none ∙ append-nil (fileBytes l) in
-      read-again l end (is-judged (r .judged)) .ends ∙ sym (ap length is)
-
   -- The numbers l that the whole of s has.
   module _ (l : List ℕ) (file : FileAgain numberCount (replicate numberCount 0) s l) where
     numbers-again : numbersOf (problemOf l) ≡ l
-    numbers-again = numbers-of-problem l (file .size) (field-facts l (length s) (file .checked) .edition)
+    numbers-again = numbers-of-problem l (file .into .size) (good-facts l (file .into .good) .edition)
 
     read-as : judgeGraph (problemOf l) ≡ Accepted → ReadAs s (problemOf l)
     read-as graph =
@@ -76,22 +67,20 @@ module _ (s : List ℕ) (byte : (i : ℕ) → getD s i 0 < 256) where
           checked = is-checked (problemOf l) (length s) (record { fields = ap checkFields numbers-again ∙ file .checked; graph = graph });
           spare =
               ap (λ (m : List ℕ). problemOf (cleared m)) numbers-again
-              ∙ ap problemOf (sym (fill-cleared l (length s) (file .checked)) ∙ sym (file .filled));
+              ∙ ap problemOf (sym (fill-cleared l (file .into .good)) ∙ sym (file .into .filled));
         }
 
-  module _ (p : Problem) (read : readFile s ≡ record { verdict = Accepted; problem = p }) where
+  module _ (p : Problem) (is-read : readFile s ≡ read.Accepted p) where
     whole-file : Whole (length s) (readFields s .answer) (readFields s .numbers) p
     unfolding readFile
-    whole-file = whole (length s) (readFields s .numbers) p (readFields s .answer) read
+    whole-file = whole (length s) (readFields s .numbers) p (readFields s .answer) is-read
 
     pub accepted : ReadAs s p
     accepted =
         let w : Whole (length s) (readFields s .answer) (readFields s .numbers) p = whole-file in
         let l : List ℕ = readFields s .numbers in
-        let scan : (end : ℕ) → w .end ≡ end → readFields s ≡ scanned (Done end) l =
-        λ end e. ap (λ (f : Fields). scanned f l) (w .done ∙ ap Done e) in
         let file : FileAgain numberCount (replicate numberCount 0) s l =
-        file-again s l byte (scan (length s) (ends (w .end) l (w .none-left) (scan (w .end) refl))) in
+        file-again s l (w .end) byte (w .none-left) (ap (λ (f : FieldsAnswer). scanned f l) (w .done)) in
         subst (λ (q : Problem). ReadAs s q) (w .problem) (read-as l file (w .graph))
 
     -- Every spare place of an accepted problem is zero.
@@ -119,7 +108,7 @@ module _ (p : Problem) (need : ℕ) (checked : checkProblem p ≡ Done need) whe
   file-length = again .ends
 
   scan-again : readFields (fileBytes (numbersOf p)) ≡ scanned (Done need) (cleared (numbersOf p))
-  scan-again = again .scan ∙ ap (scanned (Done need)) (fill-cleared (numbersOf p) need (good-problem p need checked .fields))
+  scan-again = again .scan ∙ ap (scanned (Done need)) (fill-cleared (numbersOf p) (checked-good (numbersOf p) need (good-problem p need checked .fields)))
 
 module _ (p : Problem) (sized : Sized p) (need : ℕ) (checked : checkProblem p ≡ Done need) where
   -- Clearing its spare places leaves a lawful problem the same.
@@ -130,7 +119,7 @@ module _ (p : Problem) (sized : Sized p) (need : ℕ) (checked : checkProblem p 
   graph-cleared = sym (same-judged same-cleared) ∙ good-problem p need checked .graph
 
   -- A lawful problem's file is read as the problem, with every spare place zero.
-  pub write-then-read : readFile (fileBytes (numbersOf p)) ≡ record { verdict = Accepted; problem = clearedProblem p }
+  pub write-then-read : readFile (fileBytes (numbersOf p)) ≡ read.Accepted (clearedProblem p)
   unfolding readFile
   write-then-read =
       let s : List ℕ = fileBytes (numbersOf p) in
@@ -163,7 +152,7 @@ written-file p buf n e =
 
 -- What Write wrote of a problem is read as the problem, with every spare place zero.
 pub written-read : (p : Problem) → Sized p → (buf : List ℕ) (n : ℕ) → writeProblem p (length buf) ≡ Written n →
-    readFile (take n (writtenBuffer p buf)) ≡ record { verdict = Accepted; problem = clearedProblem p }
+    readFile (take n (writtenBuffer p buf)) ≡ read.Accepted (clearedProblem p)
 written-read p sized buf n e =
     let w : WrittenFile p buf n = written-file p buf n e in
     ap readFile (w .file) ∙ write-then-read p sized n (w .checked)

@@ -1,58 +1,49 @@
 // Run: a walk, judged and simulated from an empty scratchpad.
 use layout::LayoutAnswer;
-use model::Fields;
+use model::Numbers;
 use model::Problem;
 use model::Refusal;
 use model::RunAnswer;
-use model::RunVerdict;
 use model::Verdict;
+use simulation::Regions;
 ghost use mathlib.Core.Path.{_≡_};
 ghost use Rattle.model.specs.Numbers.{problemOf};
 ghost use Rattle.model.specs.Operations.{Checked};
-ghost use Rattle.model.specs.Results.{runWalk};
-ghost use Rattle.run.specs.Steps.{notRun};
+ghost use Rattle.model.specs.Results.{runWalk, runRegions};
 
-fn not_run(refusal: Refusal) -> RunAnswer
-    ensures { λ r. ⌜ r ≡ notRun refusal ⌝ }
-{
-    RunAnswer {
-        verdict: RunVerdict::Refused(refusal),
-        held: [0; 32],
-    }
-}
+// The longest walk that Run takes.
+const WALK_LIMIT: usize = 1_000_000;
 
 // Run on checked numbers: the layout, the walk's length, its entries, and the run.
-pub fn run_checked(l: &[u64; 1446], layout: &[u8], walk: &[u32]) -> RunAnswer
+pub fn run_checked(l: &Numbers, layout: &[u8], walk: &[u32], held: &mut Regions) -> RunAnswer
     requires { ⌜ Checked (now l) ⌝ }
     ensures { λ r. ⌜ r ≡ runWalk (problemOf (now (l .entry))) (now (layout .entry)) (now (walk .entry)) ⌝ }
+    ensures { λ r. ⌜ now (held .exit) ≡ runRegions (problemOf (now (l .entry))) (now (layout .entry)) (now (walk .entry)) (now (held .entry)) ⌝ }
 {
     let judged = layout::judge(l, layout);
     let LayoutAnswer::Fits(_) = judged else {
-        return not_run(layout::refusal_in(judged));
+        return RunAnswer::Refused(model::refusal_in(layout::verdict_of(judged)));
     };
-    if 1_000_000 < walk.len() {
-        return not_run(Refusal::LongWalk(1_000_000));
+    if WALK_LIMIT < walk.len() {
+        return RunAnswer::Refused(Refusal::WalkTooLong(WALK_LIMIT as u64));
     }
     let verdict = walk::judge(l, walk);
     let Verdict::Accepted = verdict else {
-        return not_run(model::refusal_in(verdict));
+        return RunAnswer::Refused(model::refusal_in(verdict));
     };
-    let mut held = [0u8; 32];
-    let run = walk::simulate(l, layout, walk, &mut held);
-    RunAnswer {
-        verdict: RunVerdict::Ran(run),
-        held: held,
-    }
+    let run = simulation::simulate(l, layout, walk, held);
+    RunAnswer::Ran(run)
 }
 
-// **Run.** Cycles, loads and the function held in each region, or the first refusal that applies.
-pub fn run(problem: Problem, layout: &[u8], walk: &[u32]) -> RunAnswer
+// **Run.** Cycles and loads, and into `held` the function held in each region, or the first refusal that applies, and `held` is left as it is.
+pub fn run(problem: Problem, layout: &[u8], walk: &[u32], held: &mut Regions) -> RunAnswer
     ensures { λ r. ⌜ r ≡ runWalk problem (now (layout .entry)) (now (walk .entry)) ⌝ }
+    ensures { λ r. ⌜ now (held .exit) ≡ runRegions problem (now (layout .entry)) (now (walk .entry)) (now (held .entry)) ⌝ }
 {
     let numbers = numbers::numbers_of(problem);
-    let checked = file::check(&numbers);
-    let Fields::Done(_) = checked else {
-        return not_run(file::refusal_in(checked));
+    let verdict = file::judge(&numbers);
+    let Verdict::Accepted = verdict else {
+        return RunAnswer::Refused(model::refusal_in(verdict));
     };
-    run_checked(&numbers, layout, walk)
+    run_checked(&numbers, layout, walk, held)
 }

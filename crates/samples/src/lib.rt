@@ -6,6 +6,10 @@ use model::Function;
 use model::Loop;
 use model::Problem;
 use model::Vertex;
+use model::places::MOST_EDGES;
+use model::places::MOST_FUNCTIONS;
+use model::places::MOST_LOOPS;
+use model::places::MOST_VERTICES;
 
 fn function(size: u64, load: u64) -> Function {
     Function {
@@ -26,8 +30,8 @@ fn edge(from: usize, to: usize) -> Edge {
 }
 
 // Three functions of sizes 8, 4, 6 and load costs 5, 3, 4.
-fn functions_p() -> [Function; 32] {
-    let mut functions = [function(0, 0); 32];
+fn functions_p() -> [Function; MOST_FUNCTIONS] {
+    let mut functions = [function(0, 0); MOST_FUNCTIONS];
     functions[0] = function(8, 5);
     functions[1] = function(4, 3);
     functions[2] = function(6, 4);
@@ -35,8 +39,8 @@ fn functions_p() -> [Function; 32] {
 }
 
 // Vertices of functions 0 1 0 2 0 1 0, each cost 10.
-fn vertices_p() -> [Vertex; 128] {
-    let mut vertices = [vertex(0, 0); 128];
+fn vertices_p() -> [Vertex; MOST_VERTICES] {
+    let mut vertices = [vertex(0, 0); MOST_VERTICES];
     vertices[0] = vertex(0, 10);
     vertices[1] = vertex(1, 10);
     vertices[2] = vertex(0, 10);
@@ -48,8 +52,8 @@ fn vertices_p() -> [Vertex; 128] {
 }
 
 // A chain of six edges.
-fn edges_p() -> [Edge; 512] {
-    let mut edges = [edge(0, 0); 512];
+fn edges_p() -> [Edge; MOST_EDGES] {
+    let mut edges = [edge(0, 0); MOST_EDGES];
     edges[0] = edge(0, 1);
     edges[1] = edge(1, 2);
     edges[2] = edge(2, 3);
@@ -59,12 +63,12 @@ fn edges_p() -> [Edge; 512] {
     edges
 }
 
-fn no_loops() -> [Loop; 32] {
+fn no_loops() -> [Loop; MOST_LOOPS] {
     [Loop {
         header: 0,
         last: 0,
         bound: 0,
-    }; 32]
+    }; MOST_LOOPS]
 }
 
 // P has a scratchpad of 14; M5 asks it with 13 too.
@@ -83,16 +87,16 @@ pub fn p(scratchpad: u64) -> Problem {
 }
 
 // Two functions of size 1 and load costs 5, 3: of Q and R.
-fn functions_q() -> [Function; 32] {
-    let mut functions = [function(0, 0); 32];
+fn functions_q() -> [Function; MOST_FUNCTIONS] {
+    let mut functions = [function(0, 0); MOST_FUNCTIONS];
     functions[0] = function(1, 5);
     functions[1] = function(1, 3);
     functions
 }
 
 // Vertices of functions 0 1 1 0 with costs 10, 10, 20, 10.
-fn vertices_q() -> [Vertex; 128] {
-    let mut vertices = [vertex(0, 0); 128];
+fn vertices_q() -> [Vertex; MOST_VERTICES] {
+    let mut vertices = [vertex(0, 0); MOST_VERTICES];
     vertices[0] = vertex(0, 10);
     vertices[1] = vertex(1, 10);
     vertices[2] = vertex(1, 20);
@@ -100,8 +104,8 @@ fn vertices_q() -> [Vertex; 128] {
     vertices
 }
 
-fn edges_q() -> [Edge; 512] {
-    let mut edges = [edge(0, 0); 512];
+fn edges_q() -> [Edge; MOST_EDGES] {
+    let mut edges = [edge(0, 0); MOST_EDGES];
     edges[0] = edge(0, 1);
     edges[1] = edge(0, 2);
     edges[2] = edge(1, 3);
@@ -124,8 +128,8 @@ pub fn q() -> Problem {
 }
 
 // Vertices of functions 0 0 1 0 with costs 1, 2, 7, 1.
-fn vertices_r() -> [Vertex; 128] {
-    let mut vertices = [vertex(0, 0); 128];
+fn vertices_r() -> [Vertex; MOST_VERTICES] {
+    let mut vertices = [vertex(0, 0); MOST_VERTICES];
     vertices[0] = vertex(0, 1);
     vertices[1] = vertex(0, 2);
     vertices[2] = vertex(1, 7);
@@ -133,8 +137,8 @@ fn vertices_r() -> [Vertex; 128] {
     vertices
 }
 
-fn edges_r() -> [Edge; 512] {
-    let mut edges = [edge(0, 0); 512];
+fn edges_r() -> [Edge; MOST_EDGES] {
+    let mut edges = [edge(0, 0); MOST_EDGES];
     edges[0] = edge(0, 1);
     edges[1] = edge(1, 2);
     edges[2] = edge(1, 3);
@@ -143,7 +147,7 @@ fn edges_r() -> [Edge; 512] {
 }
 
 // One loop, 1 to 2.
-fn loops_r(bound: u64) -> [Loop; 32] {
+fn loops_r(bound: u64) -> [Loop; MOST_LOOPS] {
     let mut loops = no_loops();
     loops[0] = Loop {
         header: 1,
@@ -169,8 +173,8 @@ pub fn r(bound: u64) -> Problem {
 }
 
 // Three functions of size 1 and load costs 5, 3, 4.
-fn functions_s() -> [Function; 32] {
-    let mut functions = [function(0, 0); 32];
+fn functions_s() -> [Function; MOST_FUNCTIONS] {
+    let mut functions = [function(0, 0); MOST_FUNCTIONS];
     functions[0] = function(1, 5);
     functions[1] = function(1, 3);
     functions[2] = function(1, 4);
@@ -178,8 +182,8 @@ fn functions_s() -> [Function; 32] {
 }
 
 // A short branch through function 1 and a long one through function 2.
-fn vertices_s() -> [Vertex; 128] {
-    let mut vertices = [vertex(0, 0); 128];
+fn vertices_s() -> [Vertex; MOST_VERTICES] {
+    let mut vertices = [vertex(0, 0); MOST_VERTICES];
     vertices[0] = vertex(0, 10);
     vertices[1] = vertex(1, 1);
     vertices[2] = vertex(2, 100);

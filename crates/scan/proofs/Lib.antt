@@ -1,4 +1,4 @@
-pub mod Turns
-pub mod Edges
-pub mod EdgesRead
-pub mod EdgesChecked
+pub mod Going
+pub mod Reading
+pub mod Judging
+pub mod Writing

@@ -6,14 +6,14 @@ use lib.ListN.{length}
 use Rattle.model.specs.declared.Refusal.the-variants as refusal
 use Rattle.model.specs.declared.Number as spelt
 use Rattle.model.specs.declared.Number.the-variants as number
-use Rattle.model.specs.declared.Fields.{Fields}
-use Rattle.model.specs.declared.Fields.the-variants.{Done, Refused}
+use Rattle.model.specs.declared.FieldsAnswer.{FieldsAnswer}
+use Rattle.model.specs.declared.FieldsAnswer.the-variants.{Done, Refused}
 use Rattle.model.specs.File.{checkFields}
 
 -- 1, the bytes end before the number does; 2, it is misspelt. (A number that was read leads on to the position after it.)
-unfoldable pub misread : spelt.Number → ℕ → ℕ → Fields
+unfoldable pub misread : spelt.Number → ℕ → ℕ → FieldsAnswer
 misread (number.Value v next) size at = Done next
-misread number.Ended size at = Refused (refusal.Ended size)
+misread number.Ended size at = Refused (refusal.EndsEarly size)
 misread number.Misspelt size at = Refused (refusal.Misspelt at)
 
 -- The numbers are judged good, and their file fits the buffer.

@@ -7,16 +7,17 @@ use native.Mathlib.Omega.{arith}
 use lib.ListN.{length, take}
 use lib.Seq.{length-take-le, take-all}
 use borrow.Author.Tests.{lt-ltb}
-use Rattle.model.specs.declared.Refusal.the-variants.{LongLayout}
+use Rattle.model.specs.declared.Refusal.the-variants.{LayoutTooLong}
 use Rattle.model.specs.declared.Verdict.{Verdict}
 use Rattle.model.specs.declared.Verdict.the-variants.{Accepted, Refused}
-use Rattle.model.specs.declared.Fields.{Fields}
-use Rattle.model.specs.declared.Fields.the-variants as fields
+use Rattle.model.specs.declared.FieldsAnswer.{FieldsAnswer}
+use Rattle.model.specs.declared.FieldsAnswer.the-variants as fields
 use Rattle.model.specs.declared.Problem.{Problem}
 use Rattle.model.specs.declared.ReadAnswer.{ReadAnswer}
 use Rattle.model.specs.declared.BoundAnswer.{BoundAnswer}
 use Rattle.model.specs.declared.BoundAnswer.the-variants as bound
 use Rattle.model.specs.Numbers.{numbersOf}
+use Rattle.model.specs.Places.{mostFunctions}
 use Rattle.model.specs.File.{readLength}
 use Rattle.model.specs.Graph.{andThen}
 use Rattle.model.specs.Layouts.{judgeLayout}
@@ -28,28 +29,28 @@ use Rattle.model.proofs.Cases.{by-order}
 use Rattle.facts.proofs.Facts.{field-facts}
 use Rattle.file.proofs.Opened.{good}
 use Rattle.roundtrip.proofs.Prefix.{read-prefix}
-use Rattle.sheet.specs.declared.fill.Filled.{Filled}
-use Rattle.sheet.specs.declared.fill.Filled.the-variants.{To}
+use Rattle.sheet.specs.declared.fill.BytesRead.{BytesRead}
+use Rattle.sheet.specs.declared.fill.BytesRead.the-variants.{To}
 use Rattle.sheet.specs.Fronts.{layoutLength, count, Fills, Front, FrontOf}
 
 module _ (p : Problem) where
-  few-functions : judgeProblem p ≡ Accepted → p .«function_count» ≤ 32
+  few-functions : judgeProblem p ≡ Accepted → p .«function_count» ≤ mostFunctions
   unfolding judgeProblem checkProblem numbersOf
   few-functions e = at (checkProblem p) refl e
     where
-      at : (f : Fields) → checkProblem p ≡ f → asVerdict f ≡ Accepted → p .«function_count» ≤ 32
+      at : (f : FieldsAnswer) → checkProblem p ≡ f → asVerdict f ≡ Accepted → p .«function_count» ≤ mostFunctions
       at (fields.Done need) q z = field-facts (numbersOf p) need (good _ p need q .fields) .functions
       at (fields.Refused f) q z = refused-not-accepted z
 
   -- The verdict on a layout with more bytes than there can be functions, whatever they are.
   tooLong : Verdict
-  tooLong = andThen (judgeProblem p) (Refused (LongLayout (p .«function_count»)))
+  tooLong = andThen (judgeProblem p) (Refused (LayoutTooLong (p .«function_count»)))
 
   long-refused : (layout : List ℕ) → layoutLength ≤ length layout → judgeBound p layout ≡ tooLong
   unfolding tooLong judgeBound judgeLayout
   long-refused layout long = at (judgeProblem p) refl
     where
-      at : (v : Verdict) → judgeProblem p ≡ v → andThen v (judgeLayout p layout) ≡ andThen v (Refused (LongLayout (p .«function_count»)))
+      at : (v : Verdict) → judgeProblem p ≡ v → andThen v (judgeLayout p layout) ≡ andThen v (Refused (LayoutTooLong (p .«function_count»)))
       at Accepted e = simp (lt-ltb (p .«function_count») (length layout) (omega (arith, few-functions e)))
       at (Refused f) e = refl
 
@@ -57,7 +58,7 @@ module _ (p : Problem) where
   unfolding tooLong
   long-not-accepted {P} layout long e = at (judgeProblem p) (sym (long-refused layout long) ∙ e)
     where
-      at : (v : Verdict) → andThen v (Refused (LongLayout (p .«function_count»))) ≡ Accepted → P
+      at : (v : Verdict) → andThen v (Refused (LayoutTooLong (p .«function_count»))) ≡ Accepted → P
       at Accepted z = refused-not-accepted z
       at (Refused f) z = refused-not-accepted z
 
@@ -79,7 +80,7 @@ pub read-front : (buf : List ℕ) (n : ℕ) → Front readLength buf n → (r : 
 read-front buf n front r says file is = says ∙ ap readFile is ∙ read-prefix file (length buf) (front .enough)
 
 -- A buffer that was filled to n holds a front, where its room was enough.
-pub filled-front : {looked n : ℕ} {before after : List ℕ} {filled : Filled} → looked ≤ length before → Fills before after filled → filled ≡ To n →
+pub filled-front : {looked n : ℕ} {before after : List ℕ} {filled : BytesRead} → looked ≤ length before → Fills before after filled → filled ≡ To n →
     Front looked after n
 filled-front {looked} {n} {before} {after} enough fills e =
-    record { enough = omega (arith, fills .room); filled = subst (λ (f : Filled). count f ≤ length after) e (fills .within) }
+    record { enough = omega (arith, fills .room); filled = subst (λ (f : BytesRead). count f ≤ length after) e (fills .within) }

@@ -1,21 +1,25 @@
 // Read and Bound on a buffer that holds an input's front. What they say holds of the whole input, however long: neither looks at a byte that the
 // buffer has no room for.
 use model::BoundAnswer;
+use model::Numbers;
 use model::Problem;
-use model::ReadAnswer;
+use model::Verdict;
 ghost use mathlib.Core.Path.{_≡_};
 ghost use mathlib.Core.List.{List};
 ghost use Prim.Native.Nat.{ℕ};
-ghost use Rattle.model.specs.File.{readLength};
-ghost use Rattle.model.specs.Operations.{readFile};
+ghost use lib.ListN.{replicate};
+ghost use Rattle.model.specs.Numbers.{problemOf};
+ghost use Rattle.model.specs.File.{numberCount, readLength};
+ghost use Rattle.model.specs.Operations.{readVerdict, readFile};
 ghost use Rattle.model.specs.Results.{BoundSays};
 ghost use Rattle.sheet.specs.Fronts.{layoutLength, Front, FrontOf};
 
-pub fn read(buf: &[u8], n: usize) -> ReadAnswer
-    requires { ⌜ Front readLength (now buf) n ⌝ }
-    ensures { λ r. ⌜ ((file : List ℕ) → FrontOf (now (buf .entry)) n file → r ≡ readFile file) ⌝ }
+// Read's verdict; where it accepts, the problem is the one that the numbers say.
+pub fn read(buf: &[u8], n: usize, numbers: &mut Numbers) -> Verdict
+    requires { ⌜ Front readLength (now buf) n ⌝ ∗ ⌜ now numbers ≡ replicate numberCount 0 ⌝ }
+    ensures { λ r. ⌜ ((file : List ℕ) → FrontOf (now (buf .entry)) n file → readVerdict r (problemOf (now (numbers .exit))) ≡ readFile file) ⌝ }
 {
-    file::read(&buf[..n])
+    file::read_numbers(&buf[..n], numbers)
 }
 
 pub fn bound(problem: Problem, buf: &[u8], n: usize) -> BoundAnswer

@@ -3,9 +3,10 @@ mod fill;
 mod front;
 mod show;
 
-use fill::Filled;
+use fill::BytesRead;
 use model::Problem;
 use model::Verdict;
+use model::places;
 
 // Room for more bytes of a problem file than Read looks at, and for more of a layout than Bound does.
 const FILE_ROOM: usize = 8192;
@@ -16,7 +17,7 @@ const LAYOUT_ROOM: usize = 64;
 fn mark_layout(problem: Problem, path: &[u8]) {
     let mut buf = [0u8; LAYOUT_ROOM];
     let filled = fill::from_file(path, &mut buf);
-    let Filled::To(n) = filled else {
+    let BytesRead::To(n) = filled else {
         return;
     };
     show::bounded(front::bound(problem, &buf, n));
@@ -27,13 +28,13 @@ fn mark_layout(problem: Problem, path: &[u8]) {
 pub fn mark(input: i32, name: &[u8], path: &[u8]) {
     let mut buf = [0u8; FILE_ROOM];
     let filled = fill::from_input(input, name, &mut buf);
-    let Filled::To(n) = filled else {
+    let BytesRead::To(n) = filled else {
         return;
     };
-    let answer = front::read(&buf, n);
-    let verdict = answer.verdict;
+    let mut numbers = [0u64; places::END];
+    let verdict = front::read(&buf, n, &mut numbers);
     match verdict {
         Verdict::Refused(refusal) => show::refused(refusal),
-        Verdict::Accepted => mark_layout(answer.problem, path),
+        Verdict::Accepted => mark_layout(numbers::problem_of(&numbers), path),
     }
 }

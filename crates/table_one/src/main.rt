@@ -4,8 +4,10 @@ mod show;
 use model::InterferenceAnswer;
 use model::Problem;
 use model::Vertex;
+use model::places;
 ghost use Prim.Native.Nat.{_*_, _≤_};
 ghost use lib.ListN.{length};
+ghost use Rattle.model.specs.Places;
 
 // Whether the words from place `from` on still have the value they were given.
 fn kept(words: &[u32], from: usize) -> bool {
@@ -20,8 +22,8 @@ fn kept(words: &[u32], from: usize) -> bool {
 }
 
 // A line for each vertex, its sets being so many words as there are functions.
-fn rows(vertices: [Vertex; 128], count: usize, functions: usize, words: &[u32])
-    requires { ⌜ (count ≤ 128) × (count * functions ≤ length (now words)) ⌝ }
+fn rows(vertices: [Vertex; places::MOST_VERTICES], count: usize, functions: usize, words: &[u32])
+    requires { ⌜ (count ≤ Places.mostVertices) × (count * functions ≤ length (now words)) ⌝ }
 {
     let mut v: usize = 0;
     while v < count {
@@ -33,7 +35,7 @@ fn rows(vertices: [Vertex; 128], count: usize, functions: usize, words: &[u32])
 
 // The sets of a problem with that many vertices and functions, from a buffer of 24 words.
 fn table(name: &[u8], problem: Problem, count: usize, functions: usize)
-    requires { ⌜ (count ≤ 128) × (count * functions ≤ 24) ⌝ }
+    requires { ⌜ (count ≤ Places.mostVertices) × (count * functions ≤ 24) ⌝ }
 {
     show::text(name);
     let mut words = [77u32; 24];

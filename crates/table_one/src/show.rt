@@ -1,7 +1,9 @@
 // Sets and counts in print.
 use libc::STDOUT_FILENO;
 use model::Refusal;
+use model::places;
 ghost use Prim.Native.Nat.{_<_};
+ghost use Rattle.model.specs.Places;
 
 pub fn text(words: &[u8]) {
     io::write_all(STDOUT_FILENO, words);
@@ -13,7 +15,7 @@ fn number(n: usize) {
 
 // Function g, if it is a member, after a comma if some member came before. Whether any has come now.
 fn member(word: u32, g: usize, some: bool) -> bool
-    requires { ⌜ g < 32 ⌝ }
+    requires { ⌜ g < Places.mostFunctions ⌝ }
 {
     if (word >> g) % 2 == 0 {
         return some;
@@ -30,7 +32,7 @@ fn set(word: u32) {
     text(b"{");
     let mut some = false;
     let mut g: usize = 0;
-    while g < 32 {
+    while g < places::MOST_FUNCTIONS {
         some = member(word, g, some);
         g += 1;
     }

@@ -1,8 +1,24 @@
 // Problems given as their fields, lawful or not.
 use crate::show;
+use model::places;
+
+// A problem's numbers without the edition, so that each stands one place earlier.
+type Fields = [u32; places::FIELD_COUNT];
+
+const SCRATCHPAD: usize = places::SCRATCHPAD - 1;
+
+const FUNCTION_COUNT: usize = places::FUNCTION_COUNT - 1;
+
+const SIZE: usize = places::SIZE - 1;
+
+const LOAD: usize = places::LOAD - 1;
+
+const VERTEX_COUNT: usize = places::VERTEX_COUNT - 1;
+
+const COST: usize = places::COST - 1;
 
 // Writes a problem's fields, and shows the refusal or the bytes written.
-fn write(name: &[u8], fields: &[u32; 1445]) {
+fn write(name: &[u8], fields: &Fields) {
     let mut out = io::buffer();
     let mut answer = [0u64; 4];
     let status = examiner::examiner_write_fields(fields, &mut out, &mut answer);
@@ -14,14 +30,14 @@ fn write(name: &[u8], fields: &[u32; 1445]) {
 }
 
 // M10 with a scratchpad size: one function of size 8 and load cost 5, one vertex of it with cost 10.
-fn m10_with(scratchpad: u32) -> [u32; 1445] {
-    let mut fields = [0u32; 1445];
-    fields[0] = scratchpad;
-    fields[1] = 1;
-    fields[2] = 8;
-    fields[3] = 5;
-    fields[66] = 1;
-    fields[68] = 10;
+fn m10_with(scratchpad: u32) -> Fields {
+    let mut fields = [0u32; places::FIELD_COUNT];
+    fields[SCRATCHPAD] = scratchpad;
+    fields[FUNCTION_COUNT] = 1;
+    fields[SIZE] = 8;
+    fields[LOAD] = 5;
+    fields[VERTEX_COUNT] = 1;
+    fields[COST] = 10;
     fields
 }
 

@@ -1,18 +1,20 @@
 // A problem is written and read back, and the two are compared.
 use crate::show;
+use model::Numbers;
 use model::Problem;
 use model::Refusal;
 use model::Verdict;
 use model::WriteAnswer;
+use model::places;
 ghost use mathlib.Core.Path.{_≡_};
 ghost use mathlib.Core.Bool.{true};
 
 // Whether two problems' numbers are the same.
-fn same_numbers(a: [u64; 1446], b: [u64; 1446]) -> bool
+fn same_numbers(a: Numbers, b: Numbers) -> bool
     ensures { λ r. ⌜ (r ≡ true → a ≡ b) × (a ≡ b → r ≡ true) ⌝ }
 {
     let mut i: usize = 0;
-    while i < 1446 {
+    while i < places::END {
         if a[i] != b[i] {
             return false;
         }
@@ -35,15 +37,13 @@ fn refused(name: &[u8], refusal: Refusal) {
 
 // Reads the file that was written, and shows whether it gives the problem again.
 fn read_back(name: &[u8], problem: Problem, file: &[u8]) {
-    let back = file::read(file);
-    let verdict = back.verdict;
+    let mut numbers = [0u64; places::END];
+    let verdict = file::read_numbers(file, &mut numbers);
     match verdict {
         Verdict::Refused(refusal) => refused(name, refusal),
         Verdict::Accepted => {
-            let same = same_numbers(
-                numbers::numbers_of(problem),
-                numbers::numbers_of(back.problem),
-            );
+            let back = numbers::problem_of(&numbers);
+            let same = same_numbers(numbers::numbers_of(problem), numbers::numbers_of(back));
             show::read_back(name, file.len() as u64, same);
         }
     }

@@ -16,22 +16,24 @@ use Rattle.model.specs.Operations.{Checked}
 use Rattle.model.specs.Walks.{EdgeOf, visits}
 use Rattle.model.specs.Verdicts.{mayFollow, pastBound}
 use Rattle.model.proofs.Cases.{by-bool}
-use Rattle.lookup.proofs.Places.{few-vertices}
+use Rattle.lookup.proofs.Places.{facts, few-vertices}
 use Rattle.greatest.specs.Numbers.{NoHeader}
 use Rattle.greatest.proofs.Loops.{holds-from, before-range, behind-range, header?}
 use Rattle.greatest.proofs.Stays.{visits-out, visits-head, visits-body}
 use Rattle.greatest.proofs.Rules.{Rules, held-head, returns, ascends, stays-in}
 use Rattle.greatest.proofs.Graph.{rules}
 use Rattle.greatest.proofs.Checked.{checked-graph, checked-ranges}
-use Rattle.walk.specs.Judging.{latest, goesBack, Bounds, Tally, Counters, Arriving, countAfter}
+use Rattle.walk.specs.Judging.{start, latest, goesBack, Bounds, Tally, Counters, Arriving, countAfter}
 use Rattle.walk.proofs.Edges.{follows-edge, goes-past, stays-within}
+use Rattle.model.specs.Places as places
+use Rattle.model.specs.Limits as limits
 
 -- A step of 2 goes on from the counter, and a step of 1 starts anew.
 count-by : (count step : ℕ) (back : Bool) → step ≡ cond back 2 1 → count * (step - 1) + 1 ≡ cond back count 0 + 1
 count-by count step true e = rw e (omega arith)
 count-by count step false e = rw e (omega arith)
 
-pub product-small : (counts : List ℕ) (step v : ℕ) → Arriving counts step v → getD counts v 0 * (step - 1) ≤ 65535
+pub product-small : (counts : List ℕ) (step v : ℕ) → Arriving counts step v → getD counts v 0 * (step - 1) ≤ limits.mostVisits
 product-small counts step v arriving =
     let small = arriving .counters .small v (arriving .inside) in
     by-bool (eqb step 1)
@@ -51,7 +53,7 @@ module _ (l : List ℕ) (checked : Checked l) where
   -- A step to a header stays in its loop exactly where it goes back.
   back-inside : (o : Loop) → List·Memᴰ o (loopsOf (problemOf l)) → (h : List ℕ) (v : ℕ) → mayFollow (problemOf l) h v ≡ true → o .header ≡ v →
       holds o (latest h) ≡ goesBack h v
-  back-inside o m [] v may q = behind-range o 128 (omega (arith, few-vertices l checked, checked-ranges l checked .last o m))
+  back-inside o m [] v may q = behind-range o start (omega (arith, few-vertices l (facts _ checked), checked-ranges l checked .last o m))
   back-inside o m (u ∷ h) v may q =
       by-bool (leb v u)
       (λ e. returns laws u v o (follows-edge (problemOf l) u v h may) (leb-true v u e) m q ∙ sym e)
@@ -86,7 +88,7 @@ module _ (l : List ℕ) (checked : Checked l) where
     at-plain : NoHeader (loopsOf (problemOf l)) v → seen ≡ 1
     at-plain none = seen-is ∙ (rw (plain-forward h v may none))
 
-    module _ (bounds : List ℕ) (are : Bounds (problemOf l) bounds) (inside : v < 128) where
+    module _ (bounds : List ℕ) (are : Bounds (problemOf l) bounds) (inside : v < places.mostVertices) where
       pub past-it : getD bounds v 0 < seen → pastBound (problemOf l) h v ≡ true
       past-it over = at (header? v (loopsOf (problemOf l)))
         where
@@ -113,7 +115,7 @@ module _ (l : List ℕ) (checked : Checked l) where
                 (λ e. rw (getD-set-other counts v k seen 0 (eqb-false k v e)) (counters .small k h′));
           }
 
-    pub tally-on : length counts ≡ 128 → v < 128 → Tally (problemOf l) (v ∷ h) (set counts v seen)
+    pub tally-on : length counts ≡ places.mostVertices → v < places.mostVertices → Tally (problemOf l) (v ∷ h) (set counts v seen)
     tally-on long inside o m holding =
         by-bool (eqb (o .header) v)
         (λ e.

@@ -15,45 +15,36 @@ use Rattle.model.specs.Graph.{loop, loopsOf}
 use Rattle.model.specs.Operations.{Checked}
 use Rattle.model.proofs.Cases.{by-bool}
 use Rattle.model.proofs.Lists.{mem-getD, index-of}
-use Rattle.graph.proofs.Places.{loop-count, loop-at}
-use Rattle.file.proofs.Counts.{counted}
-use Rattle.lookup.proofs.Places.{facts, few-vertices}
+use Rattle.lookup.proofs.Places.{facts, bound-low, bound-high, header-small}
 use Rattle.greatest.proofs.Loops.{unique}
 use Rattle.greatest.proofs.Checked.{checked-ranges}
 use Rattle.walk.specs.Judging.{Bounds}
+use Rattle.model.specs.Places as places
+use Rattle.model.specs.Limits as limits
 
 -- The first `count` loops are entered.
 pub record Entered (p : Problem) (count : ℕ) (t : List ℕ) : Type 0 where
-  pub long : length t ≡ 128
+  pub long : length t ≡ places.mostVertices
   pub own : (i : ℕ) → i < count → getD t (loop (loopsOf p) i .header) 0 ≡ loop (loopsOf p) i .bound
-  pub low : (v : ℕ) → v < 128 → 1 ≤ getD t v 0
-  pub high : (v : ℕ) → v < 128 → getD t v 0 ≤ 65535
+  pub low : (v : ℕ) → v < places.mostVertices → 1 ≤ getD t v 0
+  pub high : (v : ℕ) → v < places.mostVertices → getD t v 0 ≤ limits.mostVisits
 
-pub none-entered : (p : Problem) → Entered p 0 (replicate 128 65535)
+pub none-entered : (p : Problem) → Entered p 0 (replicate places.mostVertices limits.mostVisits)
 none-entered p =
     record {
-      long = length-replicate {A = ℕ} 128 65535;
+      long = length-replicate {A = ℕ} places.mostVertices limits.mostVisits;
       own = λ i h. absurd (omega arith);
-      low = λ v h. omega (arith, getD-replicate {A = ℕ} 128 v 65535 0 h);
-      high = λ v h. omega (arith, getD-replicate {A = ℕ} 128 v 65535 0 h);
+      low = λ v h. omega (arith, getD-replicate {A = ℕ} places.mostVertices v limits.mostVisits 0 h);
+      high = λ v h. omega (arith, getD-replicate {A = ℕ} places.mostVertices v limits.mostVisits 0 h);
     }
 
 module _ (l : List ℕ) (checked : Checked l) where
-  pub few-loops : length (loopsOf (problemOf l)) ≤ 32
-  few-loops = omega (arith, loop-count l (counted l (checked .need) (checked .fields)), facts l checked .loops)
-
   module _ (i header : ℕ) (below : i < length (loopsOf (problemOf l))) (is : header ≡ loop (loopsOf (problemOf l)) i .header) where
-    in-bounds : (1 ≤ loop (loopsOf (problemOf l)) i .bound) × (loop (loopsOf (problemOf l)) i .bound ≤ 65535)
-    in-bounds =
-        let all = counted l (checked .need) (checked .fields) in
-        let place = ap (λ (o : Loop). o .bound) (loop-at l all i below) in
-        let listed : i < getD l 1349 0 = omega (arith, loop-count l all) in
-        (omega (arith, place, facts l checked .bound-low i listed), omega (arith, place, facts l checked .bound-high i listed))
+    in-bounds : (1 ≤ loop (loopsOf (problemOf l)) i .bound) × (loop (loopsOf (problemOf l)) i .bound ≤ limits.mostVisits)
+    in-bounds = (bound-low l (facts l checked) i below, bound-high l (facts l checked) i below)
 
-    pub header-inside : header < 128
-    header-inside =
-        let m = mem-getD (loopsOf (problemOf l)) i zeroLoop below in
-        omega (arith, few-vertices l checked, checked-ranges l checked .header _ m, checked-ranges l checked .last _ m)
+    pub header-inside : header < places.mostVertices
+    header-inside = omega (arith, header-small l (facts l checked) i below)
 
     -- A loop with the same header has the same bound.
     one-header : (k : ℕ) → k < length (loopsOf (problemOf l)) → loop (loopsOf (problemOf l)) k .header ≡ header →
@@ -70,7 +61,7 @@ module _ (l : List ℕ) (checked : Checked l) where
       here v e = rw e (getD-set-same t header _ 0 (omega (arith, m .long, header-inside)) ∙ mine)
 
       -- What holds of this loop's bound and of every other place holds of the new table.
-      everywhere : (P : ℕ → Type 0) → P (loop (loopsOf (problemOf l)) i .bound) → ((v : ℕ) → v < 128 → P (getD t v 0)) → (v : ℕ) → v < 128 → P (getD after v 0)
+      everywhere : (P : ℕ → Type 0) → P (loop (loopsOf (problemOf l)) i .bound) → ((v : ℕ) → v < places.mostVertices → P (getD t v 0)) → (v : ℕ) → v < places.mostVertices → P (getD after v 0)
       everywhere P a b v h =
           by-bool (eqb v header)
           (λ e. rw (here v (eqb-true v header e)) a)
@@ -89,7 +80,7 @@ module _ (l : List ℕ) (checked : Checked l) where
                 (λ q. absurd (eqb-false _ header e (ap (λ (j : ℕ). loop (loopsOf (problemOf l)) j .header) (eqb-true k i q) ∙ sym is)))
                 (λ q. omega (arith, eqb-false k i q))));
             low = everywhere (λ (x : ℕ). 1 ≤ x) (in-bounds .0) (m .low);
-            high = everywhere (λ (x : ℕ). x ≤ 65535) (in-bounds .1) (m .high);
+            high = everywhere (λ (x : ℕ). x ≤ limits.mostVisits) (in-bounds .1) (m .high);
           }
 
 pub all-entered : (p : Problem) (i : ℕ) (t : List ℕ) → length (loopsOf p) ≤ i → Entered p i t → Bounds p t

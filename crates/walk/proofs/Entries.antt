@@ -10,7 +10,7 @@ use lib.Seq.{drop-cons}
 use lib.Dec.{ltb, eqb}
 use borrow.Author.Tests.{ltb-true, leb-true, leb-false, eq-eqb, ne-eqb, eqb-true, eqb-false}
 use Rattle.model.specs.declared.Problem.{Problem}
-use Rattle.model.specs.declared.Refusal.the-variants.{BadStep, PastBound}
+use Rattle.model.specs.declared.Refusal.the-variants.{WrongStep, BeyondBound}
 use Rattle.model.specs.declared.Verdict.{Verdict}
 use Rattle.model.specs.declared.Verdict.the-variants.{Accepted, Refused}
 use Rattle.model.specs.Numbers.{problemOf}
@@ -18,10 +18,11 @@ use Rattle.model.specs.Operations.{Checked}
 use Rattle.model.specs.Walks.{lastVertex, visits}
 use Rattle.model.specs.Verdicts.{mayFollow, pastBound, atLast, judgeWalk}
 use Rattle.model.proofs.Cases.{by-bool, by-cond}
-use Rattle.lookup.proofs.Places.{few-vertices}
+use Rattle.lookup.proofs.Places.{facts, few-vertices}
 use Rattle.greatest.proofs.Checked.{checked-ranges}
-use Rattle.walk.specs.Judging.{latest, Known, goesBack, stepOf, Steps, Bounds, Tally, Counters, Arriving, Arrived, countAfter}
+use Rattle.walk.specs.Judging.{start, latest, Known, goesBack, stepOf, Steps, Bounds, Tally, Counters, Arriving, Arrived, countAfter}
 use Rattle.walk.proofs.Arrivals.{past-it, within-it, counters-on, tally-on}
+use Rattle.model.specs.Places as places
 
 -- After i entries, of which the latest is u: what is left to judge is what was to be judged.
 pub record Judging (p : Problem) (walk : List ℕ) (i u : ℕ) (counts : List ℕ) : Type 0 where
@@ -54,12 +55,12 @@ some-step false may back step e some = absurd (some e)
 
 -- One entry, judged by its tests.
 module _ (p : Problem) (h : List ℕ) (k v : ℕ) (rest : List ℕ) where
-  entry-bad : (ltb v (p .«vertex_count») && mayFollow p h v) ≡ false → Refused (BadStep k) ≡ judgeWalk p h k (v ∷ rest)
+  entry-bad : (ltb v (p .«vertex_count») && mayFollow p h v) ≡ false → Refused (WrongStep k) ≡ judgeWalk p h k (v ∷ rest)
   unfolding judgeWalk
   entry-bad e = rw e
 
   module _ (step : (ltb v (p .«vertex_count») && mayFollow p h v) ≡ true) where
-    entry-past : pastBound p h v ≡ true → Refused (PastBound k) ≡ judgeWalk p h k (v ∷ rest)
+    entry-past : pastBound p h v ≡ true → Refused (BeyondBound k) ≡ judgeWalk p h k (v ∷ rest)
     unfolding judgeWalk
     entry-past e = rw (step, e)
 
@@ -67,20 +68,20 @@ module _ (p : Problem) (h : List ℕ) (k v : ℕ) (rest : List ℕ) where
     unfolding judgeWalk
     entry-good e = rw (step, e)
 
-latest-near : (n : ℕ) (h : List ℕ) → n ≤ 128 → Known n h → latest h ≤ 128
+latest-near : (n : ℕ) (h : List ℕ) → n ≤ places.mostVertices → Known n h → latest h ≤ start
 latest-near n [] few known = omega arith
 latest-near n (u ∷ h) few known = omega arith
 
-at-last : (p : Problem) (h : List ℕ) → p .«vertex_count» ≤ 128 → Known (p .«vertex_count») h → atLast p h ≡ eqb (latest h + 1) (p .«vertex_count»)
+at-last : (p : Problem) (h : List ℕ) → p .«vertex_count» ≤ places.mostVertices → Known (p .«vertex_count») h → atLast p h ≡ eqb (latest h + 1) (p .«vertex_count»)
 unfolding atLast
-at-last p [] few known = sym (ne-eqb 129 (p .«vertex_count») (λ e. omega arith))
+at-last p [] few known = sym (ne-eqb (start + 1) (p .«vertex_count») (λ e. omega arith))
 at-last p (u ∷ h) few known =
     by-bool (eqb (u + 1) (p .«vertex_count»))
     (λ e. eq-eqb u (lastVertex p) (omega (arith, eqb-true (u + 1) (p .«vertex_count») e)) ∙ sym e)
     (λ e. ne-eqb u (lastVertex p) (λ q. eqb-false (u + 1) (p .«vertex_count») e (omega arith)) ∙ sym e)
 
 module _ (l : List ℕ) (checked : Checked l) (walk : List ℕ) where
-  pub begin : Judging (problemOf l) walk 0 128 (replicate 128 0)
+  pub begin : Judging (problemOf l) walk 0 start (replicate places.mostVertices 0)
   unfolding visits
   begin =
       record {
@@ -90,38 +91,38 @@ module _ (l : List ℕ) (checked : Checked l) (walk : List ℕ) where
         from = refl;
         known = tt;
         tally = λ o m inside.
-            getD-replicate {A = ℕ} 128 (o .header) 0 0 (omega (arith, few-vertices l checked, checked-ranges l checked .header o m, checked-ranges l checked .last o m));
-        counters = record { long = length-replicate {A = ℕ} 128 0; small = λ i h. omega (arith, getD-replicate {A = ℕ} 128 i 0 0 h) };
+            getD-replicate {A = ℕ} places.mostVertices (o .header) 0 0 (omega (arith, few-vertices l (facts _ checked), checked-ranges l checked .header o m, checked-ranges l checked .last o m));
+        counters = record { long = length-replicate {A = ℕ} places.mostVertices 0; small = λ i h. omega (arith, getD-replicate {A = ℕ} places.mostVertices i 0 0 h) };
       }
 
   module _ (i u : ℕ) (counts : List ℕ) (judging : Judging (problemOf l) walk i u counts) where
-    pub latest-few : u ≤ 128
-    latest-few = omega (arith, judging .from, latest-near (problemOf l .«vertex_count») (judging .history) (few-vertices l checked) (judging .known))
+    pub latest-few : u ≤ start
+    latest-few = omega (arith, judging .from, latest-near (problemOf l .«vertex_count») (judging .history) (few-vertices l (facts _ checked)) (judging .known))
 
     pub stepping : i < length walk → (table : List ℕ) → Steps (problemOf l) table → (n : ℕ) → n ≡ problemOf l .«vertex_count» → (step : ℕ) →
-        step ≡ cond (ltb (getD walk i 0) n) (getD table (128 * u + getD walk i 0) 0) 0 → Stepping (problemOf l) walk i u counts step
+        step ≡ cond (ltb (getD walk i 0) n) (getD table (places.mostVertices * u + getD walk i 0) 0) 0 → Stepping (problemOf l) walk i u counts step
     stepping more table steps n n-is step told =
         record {
           judging = judging;
           more = more;
           is =
               by-cond (λ (x : ℕ). step ≡ x) (ltb (getD walk i 0) (problemOf l .«vertex_count»))
-              (λ e. (rw (n-is, e) at told) ∙ ap (λ (x : ℕ). getD table (128 * x + getD walk i 0) 0) (sym (judging .from)) ∙ steps .are (judging .history) (getD walk i 0) (judging .known) (ltb-true _ _ e))
+              (λ e. (rw (n-is, e) at told) ∙ ap (λ (x : ℕ). getD table (places.mostVertices * x + getD walk i 0) 0) (sym (judging .from)) ∙ steps .are (judging .history) (getD walk i 0) (judging .known) (ltb-true _ _ e))
               (λ e. rw (n-is, e) at told);
         }
 
     module _ (over : length walk ≤ i) where
-      ended : judgeWalk (problemOf l) [] 0 walk ≡ cond (eqb (u + 1) (problemOf l .«vertex_count»)) Accepted (Refused (BadStep i))
+      ended : judgeWalk (problemOf l) [] 0 walk ≡ cond (eqb (u + 1) (problemOf l .«vertex_count»)) Accepted (Refused (WrongStep i))
       unfolding judgeWalk
       ended =
           sym (judging .rest)
           ∙ ap (judgeWalk (problemOf l) (judging .history) i) (drop-of-length-le walk over)
-          ∙ (rw (at-last (problemOf l) (judging .history) (few-vertices l checked) (judging .known), judging .from))
+          ∙ (rw (at-last (problemOf l) (judging .history) (few-vertices l (facts _ checked)) (judging .known), judging .from))
 
       pub ends-well : u + 1 ≡ problemOf l .«vertex_count» → Accepted ≡ judgeWalk (problemOf l) [] 0 walk
       ends-well e = sym (ended ∙ (rw (eq-eqb (u + 1) (problemOf l .«vertex_count») e)))
 
-      pub ends-early : (u + 1 ≡ problemOf l .«vertex_count» → ⊥) → Refused (BadStep i) ≡ judgeWalk (problemOf l) [] 0 walk
+      pub ends-early : (u + 1 ≡ problemOf l .«vertex_count» → ⊥) → Refused (WrongStep i) ≡ judgeWalk (problemOf l) [] 0 walk
       ends-early n = sym (ended ∙ (rw (ne-eqb (u + 1) (problemOf l .«vertex_count») n)))
 
   -- What follows for the walk from the step to entry i.
@@ -135,7 +136,7 @@ module _ (l : List ℕ) (checked : Checked l) (walk : List ℕ) where
     onward : (x : Verdict) → x ≡ judgeWalk (problemOf l) h i (v ∷ drop (suc i) walk) → x ≡ judgeWalk (problemOf l) [] 0 walk
     onward x e = e ∙ ap (judgeWalk (problemOf l) h i) (sym (drop-cons walk i 0 (stepping .more))) ∙ stepping .judging .rest
 
-    pub bad : step ≡ 0 → Refused (BadStep i) ≡ judgeWalk (problemOf l) [] 0 walk
+    pub bad : step ≡ 0 → Refused (WrongStep i) ≡ judgeWalk (problemOf l) [] 0 walk
     bad none = onward _ (entry-bad (problemOf l) h i v _ (no-step (ltb v (problemOf l .«vertex_count»)) (mayFollow (problemOf l) h v) (goesBack h v) (sym none ∙ stepping .is)))
 
     module _ (some : step ≡ 0 → ⊥) where
@@ -148,8 +149,8 @@ module _ (l : List ℕ) (checked : Checked l) (walk : List ℕ) where
       known : v < problemOf l .«vertex_count»
       known = ltb-true _ _ (both .0)
 
-      inside : v < 128
-      inside = omega (arith, known, few-vertices l checked)
+      inside : v < places.mostVertices
+      inside = omega (arith, known, few-vertices l (facts _ checked))
 
       pub arriving : Arriving counts step v
       arriving =
@@ -161,7 +162,7 @@ module _ (l : List ℕ) (checked : Checked l) (walk : List ℕ) where
           }
 
       module _ (bounds : List ℕ) (are : Bounds (problemOf l) bounds) (after : List ℕ) (within : Bool) (arrived : Arrived bounds counts after step v within) where
-        pub past : within ≡ false → Refused (PastBound i) ≡ judgeWalk (problemOf l) [] 0 walk
+        pub past : within ≡ false → Refused (BeyondBound i) ≡ judgeWalk (problemOf l) [] 0 walk
         past e =
             onward _ (entry-past (problemOf l) h i v _ (good-step .0)
             (past-it l checked h v (both .1) counts (stepping .judging .tally) step (good-step .1) bounds are inside (leb-false _ _ (sym (arrived .told) ∙ e))))

@@ -4,5 +4,3 @@ pub mod Bounds
 pub mod Arrivals
 pub mod Entries
 pub mod Lawful
-pub mod Pairs
-pub mod Visits

@@ -9,11 +9,20 @@ use borrow.Author.Needs.{needs}
 use Rattle.bound.proofs.bound.Statement.{statement}
 use Rattle.bound.proofs.bound.Tie as tie
 
+abbrev numbered : tie.After-judge → tie.After-numbers-of
+numbered c = c .before .before
+
+abbrev passed : tie.After-numbers2 → tie.After-judge
+passed c = c .before .before .before
+
+abbrev refused : tie.After-refusal-in → tie.After-judge
+refused c = c .before .before .before
+
 numbers-of-requires : tie.Need-numbers-of-requires
 numbers-of-requires c κs = search needs
 
-check-requires : tie.Need-check-requires
-check-requires c κs = search needs
+judge-requires : tie.Need-judge-requires
+judge-requires c κs = search needs
 
 enum-told : tie.Need-enum-told
 enum-told c = search needs
@@ -22,23 +31,31 @@ enum-told-2 : tie.Need-enum-told-2
 enum-told-2 c = search needs
 
 refusal-in-requires : tie.Need-refusal-in-requires
-refusal-in-requires c κs = search needs
+refusal-in-requires c κs = (_, c .enum-told2 .given .1)
 
 returns : tie.Need-returns
-returns c = refused-says _ _ _ (refused-early _ _ _ (c .before .before .before .before .before .numbers-of .ensures) _ (c .before .before .before .check .ensures) _ _ (c .before .enum-told2 .given .1) (c .refusal-in .ensures))
+returns c =
+    let at = refused c in
+    refused-says _ _ _ (refused-early _ _ _ (numbered at .numbers-of .ensures) _ (at .judge .ensures) _ (c .refusal-in .ensures))
 
 bound-checked-requires : tie.Need-bound-checked-requires
-bound-checked-requires c κs = opened _ _ (c .before .before .before .before .before .numbers-of .ensures) _ (c .before .before .before .check .ensures) _ (c .before .enum-told .given .1)
+bound-checked-requires c κs =
+    let at = passed c in
+    opened _ _ (numbered at .numbers-of .ensures) _ (at .judge .ensures) (c .before .enum-told .given .1)
 
 returns-2 : tie.Need-returns-2
-returns-2 c = subst (λ (p : Problem). BoundSays p (c .before .before .before .before .before .before .before .before .args .layout .now) (c .bound-checked .result)) (same-problem _ _ (c .before .before .before .before .before .before .numbers-of .ensures) _ (c .before .before .before .before .check .ensures)) (c .bound-checked .ensures)
+returns-2 c =
+    let at = passed (c .before) in
+    let layout = numbered at .before .before .args .layout in
+    subst (λ (p : Problem). BoundSays p (layout .now) (c .bound-checked .result))
+    (same-problem _ _ (numbered at .numbers-of .ensures)) (c .bound-checked .ensures)
 
 pub bound-spec : {M : Type 1} → statement M
 bound-spec =
     tie.close
     (tie.spec
     numbers-of-requires
-    check-requires
+    judge-requires
     enum-told
     enum-told-2
     refusal-in-requires

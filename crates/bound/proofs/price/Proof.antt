@@ -1,17 +1,66 @@
 -- `price` gives Bound's result, or 14, from the tables that it fills.
 use mathlib.Core.Path.{refl}
-use Rattle.longest.specs.Tables.{byVertex}
-use Rattle.bound.proofs.Prices.{priced, past}
+use Rattle.bound.proofs.Prices.{Computed, priced, past}
 use native.Mathlib.Omega.{arith}
 use borrow.Author.Needs.{needs}
 use Rattle.bound.proofs.price.Statement.{statement}
 use Rattle.bound.proofs.price.Tie as tie
 
+-- From each table back to the one before.
+abbrev start : tie.After-rivals2 → tie.Start
+start c = c .before .before .before
+
+abbrev rivals : tie.After-may-hold → tie.After-rivals2
+rivals c = c .before .before .before
+
+abbrev held : tie.After-first-reach → tie.After-may-hold
+held c = c .before .before
+
+abbrev fresh : tie.After-mark-contested → tie.After-first-reach
+fresh c = c .before .before .before .before
+
+abbrev flags : tie.After-fill-charges → tie.After-mark-contested
+flags c = c .before .before .before
+
+abbrev charge : tie.After-cold-functions → tie.After-fill-charges
+charge c = c .before .before .before
+
+abbrev cold : tie.After-charge2 → tie.After-cold-functions
+cold c = c .before .before
+
+abbrev begun : tie.After-charge2 → tie.Start
+begun c = start (rivals (held (fresh (flags (charge (cold c))))))
+
+computed : (c : tie.After-greatest-charges) →
+    Computed (begun (c .before) .args .l .now) (begun (c .before) .args .layout .now) (flags (charge (cold (c .before))) .mark-contested .result)
+    (c .before .before .first-loads .result) (c .greatest-charges .result)
+computed c =
+    let in-charge = charge (cold (c .before)) in
+    let in-flags = flags in-charge in
+    let in-fresh = fresh in-flags in
+    record {
+      checked = begun (c .before) .pre .0;
+      rivals = _;
+      held = _;
+      fresh = _;
+      flags = _;
+      charge = _;
+      coldest = _;
+      is-rivals = rivals (held in-fresh) .rivals2 .ensures;
+      is-held = held in-fresh .may-hold .ensures;
+      is-fresh = in-fresh .first-reach .ensures;
+      tallied = in-flags .mark-contested .ensures;
+      charged = in-charge .fill-charges .ensures;
+      is-cold = cold (c .before) .cold-functions .ensures;
+      loaded = c .before .before .first-loads .ensures;
+      greatest-is = c .greatest-charges .ensures;
+    }
+
 rivals-requires : tie.Need-rivals-requires
 rivals-requires c κs = search needs
 
-latest-requires : tie.Need-latest-requires
-latest-requires c κs = search needs
+may-hold-requires : tie.Need-may-hold-requires
+may-hold-requires c κs = search needs
 
 first-reach-requires : tie.Need-first-reach-requires
 first-reach-requires c κs = search needs
@@ -29,61 +78,31 @@ first-loads-requires : tie.Need-first-loads-requires
 first-loads-requires c κs = search needs
 
 greatest-charges-requires : tie.Need-greatest-charges-requires
-greatest-charges-requires c κs = (c .before .before .before .before .before .before .before .before .before .before .before .before .before .before .before .before .before .before .before .before .pre .0, record { most = λ k. omega (arith, c .before .before .before .before .before .fill-charges .ensures .small k) })
+greatest-charges-requires c κs = (begun c .pre .0, record { most = λ k. omega (arith, charge (cold c) .fill-charges .ensures .small k) })
 
-sum-requires : tie.Need-sum-requires
-sum-requires c κs = search needs
+sum-of-cycles-requires : tie.Need-sum-of-cycles-requires
+sum-of-cycles-requires c κs = search needs
 
 returns : tie.Need-returns
-unfolding byVertex
-returns c = (
-  refl,
-  past _ (c .before .before .before .before .before .before .before .before .before .before .before .before .before .before .before .before .before .before .before .before .before .before .before .before .pre .0) _ _ _ _ _ _ _ _ _ _
-      (c .before .before .before .before .before .before .before .before .before .before .before .before .before .before .before .before .before .before .before .before .before .rivals2 .ensures)
-      (c .before .before .before .before .before .before .before .before .before .before .before .before .before .before .before .before .before .before .latest .ensures)
-      (c .before .before .before .before .before .before .before .before .before .before .before .before .before .before .before .before .first-reach .ensures)
-      (c .before .before .before .before .before .before .before .before .before .before .before .before .mark-contested .ensures)
-      (c .before .before .before .before .before .before .before .before .before .fill-charges .ensures)
-      (c .before .before .before .before .before .before .cold-functions .ensures)
-      (c .before .before .before .before .before .first-loads .ensures)
-      (c .before .before .before .greatest-charges .ensures .below)
-      (c .before .before .before .greatest-charges .ensures .at)
-      _
-      (c .before .before .sum .ensures)
-      (c .if1 .taken),
-)
+returns c = let sum = c .before .before in (refl, past (computed (sum .before)) (sum .sum-of-cycles .ensures) (omega (arith, c .if1 .taken)))
 
 returns-2 : tie.Need-returns-2
-unfolding byVertex
 returns-2 c =
-    priced _ (c .before .before .before .before .before .before .before .before .before .before .before .before .before .before .before .before .before .before .before .before .before .before .before .before .pre .0) _ _ _ _ _ _ _ _ _ _
-    (c .before .before .before .before .before .before .before .before .before .before .before .before .before .before .before .before .before .before .before .before .before .rivals2 .ensures)
-    (c .before .before .before .before .before .before .before .before .before .before .before .before .before .before .before .before .before .before .latest .ensures)
-    (c .before .before .before .before .before .before .before .before .before .before .before .before .before .before .before .before .first-reach .ensures)
-    (c .before .before .before .before .before .before .before .before .before .before .before .before .mark-contested .ensures)
-    (c .before .before .before .before .before .before .before .before .before .fill-charges .ensures)
-    (c .before .before .before .before .before .before .cold-functions .ensures)
-    (c .before .before .before .before .before .first-loads .ensures)
-    (c .before .before .before .greatest-charges .ensures .below)
-    (c .before .before .before .greatest-charges .ensures .at)
-    _
-    (c .before .before .sum .ensures)
-    (c .if1 .left)
-    _
-    (c .before .before .before .before .before .before .before .before .before .before .before .before .before .before .before .before .before .before .before .before .before .before .before .before .pre .1 .0)
+    let sum = c .before .before in
+    priced (computed (sum .before)) (sum .sum-of-cycles .ensures) (omega (arith, c .if1 .left)) (begun (sum .before .before) .pre .1 .0)
 
 pub price-spec : {M : Type 1} → statement M
 price-spec =
     tie.close
     (tie.spec
     rivals-requires
-    latest-requires
+    may-hold-requires
     first-reach-requires
     mark-contested-requires
     fill-charges-requires
     cold-functions-requires
     first-loads-requires
     greatest-charges-requires
-    sum-requires
+    sum-of-cycles-requires
     returns
     returns-2)

@@ -1,17 +1,16 @@
 -- `charges::first_load` is the load cost of a cold function.
 use mathlib.Core.Path.{sym, _∙_}
-use Rattle.lookup.proofs.Places.{few-functions}
+use Rattle.lookup.proofs.Places.{facts, few-functions}
 use Rattle.charges.specs.Tests.{firstLoad}
 use native.Mathlib.Omega.{arith}
-use borrow.Author.Needs.{needs}
 use Rattle.charges.proofs.first_load.Statement.{statement}
 use Rattle.charges.proofs.first_load.Tie as tie
 
 has-bit-requires : tie.Need-has-bit-requires
-has-bit-requires c κs = omega (arith, few-functions _ (c .pre .0))
+has-bit-requires c κs = omega (arith, few-functions _ (facts _ (c .pre .0)))
 
 load-of-requires : tie.Need-load-of-requires
-load-of-requires c κs = search needs
+load-of-requires c κs = (facts _ (c .before .before .pre .0), c .before .before .pre .1)
 
 returns : tie.Need-returns
 unfolding firstLoad

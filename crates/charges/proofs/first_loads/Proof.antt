@@ -20,6 +20,9 @@ Inv-loop l cold count loads₀ f₀ loads f =
 abbrev μ-loop : tie.MeasureT-loop
 μ-loop l cold count loads₀ f₀ loads f = count - f
 
+abbrev start : tie.At-loop Inv-loop μ-loop → tie.Start Inv-loop μ-loop
+start c = c .before .before
+
 function-count-requires : tie.Need-function-count-requires Inv-loop μ-loop
 function-count-requires c κs = search needs
 
@@ -30,8 +33,8 @@ loop-holds c = record { within = omega arith; is = refl }
 first-load-requires : tie.Need-first-load-requires Inv-loop μ-loop
 first-load-requires c κs = search needs
 
-sum-requires : tie.Need-sum-requires Inv-loop μ-loop
-sum-requires c κs = omega (arith, loads-fit _ (c .before .before .before .before .pre) _ (c .before .before .loop .inv) (omega arith) (c .first-load .ensures))
+sum-of-cycles-requires : tie.Need-sum-of-cycles-requires Inv-loop μ-loop
+sum-of-cycles-requires c κs = let at = c .before .before in omega (arith, loads-fit _ (start at .pre) _ (at .loop .inv) (omega arith) (c .first-load .ensures))
 
 add-f : tie.Need-add-f Inv-loop μ-loop
 add-f c = search needs
@@ -40,11 +43,11 @@ loop-less : tie.Need-loop-less Inv-loop μ-loop
 loop-less c = search needs
 
 loop-again : tie.Need-loop-again Inv-loop μ-loop
-loop-again c = turn _+_ (total-more _) (c .before .before .before .loop .inv) (omega arith) (c .before .first-load .ensures) (c .sum .ensures)
+loop-again c = turn _+_ (total-more _) (c .before .before .before .loop .inv) (omega arith) (c .before .first-load .ensures) (c .sum-of-cycles .ensures)
 
 returns : tie.Need-returns Inv-loop μ-loop
 unfolding firstLoads firstLoad
-returns c = loaded-first _ (c .before .before .before .pre) _ (end (c .before .loop .inv) (omega arith))
+returns c = loaded-first _ (start (c .before) .pre) _ (end (c .before .loop .inv) (omega arith))
 
 pub first-loads-spec : {M : Type 1} → statement M
 first-loads-spec =
@@ -55,7 +58,7 @@ first-loads-spec =
     function-count-requires
     loop-holds
     first-load-requires
-    sum-requires
+    sum-of-cycles-requires
     add-f
     loop-less
     loop-again

@@ -3,11 +3,32 @@ use lib.ListN.{length}
 use mathlib.Core.Path.{ap, _∙_}
 use Rattle.model.specs.declared.Problem.{Problem}
 use Rattle.model.specs.Operations.{writeProblem, writtenBuffer}
-use Rattle.examiner.specs.Outcomes.{Refusing, onWritten}
-use Rattle.examiner.proofs.Told.{stands, goes-on, told-with}
+use Rattle.outcomes.specs.Outcomes.{Refusing, onWritten}
+use Rattle.outcomes.proofs.Told.{told-with}
+use Rattle.examiner.proofs.Told.{stands, goes-to}
 use borrow.Author.Needs.{needs}
 use Rattle.examiner.proofs.examiner_write.Statement.{statement}
 use Rattle.examiner.proofs.examiner_write.Tie as tie
+
+-- Read's answer is opened: it refused, or it gave a problem.
+abbrev refused : tie.After-refusal-in → tie.After-read-numbers
+refused c = c .before .before .before
+
+abbrev read : tie.After-enum-told → tie.After-read-numbers
+read c = c .before .before
+
+abbrev entry : tie.After-read-numbers → tie.Start
+entry c = c .before .before .before .before
+
+-- The problem is made of its numbers and written.
+abbrev wrote : tie.After-tell-written → tie.After-write
+wrote c = c .before .before .before .before
+
+abbrev made : tie.After-write → tie.After-problem-of
+made c = c .before .before
+
+abbrev given : tie.After-problem-of → tie.After-enum-told
+given c = c .before .before
 
 read-numbers-requires : tie.Need-read-numbers-requires
 read-numbers-requires c κs = search needs
@@ -19,21 +40,21 @@ enum-told-2 : tie.Need-enum-told-2
 enum-told-2 c = search needs
 
 refusal-in-requires : tie.Need-refusal-in-requires
-refusal-in-requires c κs = search needs
+refusal-in-requires c κs = (_, c .enum-told2 .given .1)
 
 refuse-requires : tie.Need-refuse-requires
 refuse-requires c κs = search needs
 
 returns : tie.Need-returns
-returns c = let out = c .before .before .before .before .before .before .before .before .before .args .out .now in
-    let r = c .before .before .before .before .before .read-numbers .ensures in
-    let refused = c .before .before .before .enum-told2 .given .1 in
-    let same = c .before .before .refusal-in .ensures in
+returns c =
+    let f = c .before .before in
+    let out = entry (refused f) .args .out .now in
+    let r = refused f .read-numbers .ensures in
     told-with _ _ _ _ _
-    (stands _ _ _ r (λ p. onWritten (writeProblem p (length out))) Refusing _ _ refused same)
+    (stands _ _ _ r (λ p. onWritten (writeProblem p (length out))) Refusing _ (f .refusal-in .ensures))
     (c .refuse .ensures .0)
     (c .refuse .ensures .1)
-    (stands _ _ _ r (λ p. writtenBuffer p out) (λ f. out) _ _ refused same)
+    (stands _ _ _ r (λ p. writtenBuffer p out) (λ f. out) _ (f .refusal-in .ensures))
 
 problem-of-requires : tie.Need-problem-of-requires
 problem-of-requires c κs = search needs
@@ -48,16 +69,18 @@ same-length : tie.Need-same-length
 same-length c = search needs
 
 returns-2 : tie.Need-returns-2
-returns-2 c = let out = c .before .before .before .before .before .before .before .before .before .before .before .before .before .before .args .out .now in
-    let r = c .before .before .before .before .before .before .before .before .before .before .read-numbers .ensures in
-    let accepted = c .before .before .before .before .before .before .before .before .enum-told .given .1 in
-    let own = c .before .before .before .before .before .before .problem-of .ensures in
-    let w = c .before .before .before .before .write in
+returns-2 c =
+    let w = wrote c in
+    let e = given (made w) in
+    let out = entry (read e) .args .out .now in
+    let r = read e .read-numbers .ensures in
+    let own = made w .problem-of .ensures in
     told-with _ _ _ _ _
-    (ap onWritten (w .ensures .0 ∙ ap (λ (p : Problem). writeProblem p (length out)) own) ∙ goes-on _ _ _ r (λ p. onWritten (writeProblem p (length out))) Refusing accepted)
+    (goes-to _ _ _ r (λ p. onWritten (writeProblem p (length out))) Refusing
+    (ap onWritten (w .write .ensures .0 ∙ ap (λ (p : Problem). writeProblem p (length out)) own)) (e .enum-told .given .1))
     (c .tell-written .ensures .0)
     (c .tell-written .ensures .1)
-    (w .ensures .1 ∙ ap (λ (p : Problem). writtenBuffer p out) own ∙ goes-on _ _ _ r (λ p. writtenBuffer p out) (λ f. out) accepted)
+    (goes-to _ _ _ r (λ p. writtenBuffer p out) (λ f. out) (w .write .ensures .1 ∙ ap (λ (p : Problem). writtenBuffer p out) own) (e .enum-told .given .1))
 
 pub examiner-write-spec : {M : Type 1} → statement M
 examiner-write-spec =

@@ -4,11 +4,24 @@ use mathlib.Core.Path.{ap, _∙_}
 use Rattle.model.specs.declared.Problem.{Problem}
 use Rattle.model.specs.Numbers.{problemOf}
 use Rattle.model.specs.Operations.{writeProblem, writtenBuffer}
-use Rattle.examiner.specs.Outcomes.{onWritten}
-use Rattle.examiner.proofs.Told.{told-with}
+use Rattle.outcomes.specs.Outcomes.{onWritten}
+use Rattle.outcomes.proofs.Told.{told-with}
 use borrow.Author.Needs.{needs}
 use Rattle.examiner.proofs.examiner_write_fields.Statement.{statement}
 use Rattle.examiner.proofs.examiner_write_fields.Tie as tie
+
+-- The problem is made of its numbers and written.
+abbrev wrote : tie.After-tell-written → tie.After-write
+wrote c = c .before .before .before .before
+
+abbrev made : tie.After-write → tie.After-problem-of
+made c = c .before .before
+
+abbrev numbered : tie.After-problem-of → tie.After-with-edition
+numbered c = c .before .before
+
+abbrev entry : tie.After-with-edition → tie.Start
+entry c = c .before .before .before
 
 with-edition-requires : tie.Need-with-edition-requires
 with-edition-requires c κs = search needs
@@ -27,14 +40,15 @@ same-length c = search needs
 
 returns : tie.Need-returns
 returns c =
-    let out = c .before .before .before .before .before .before .before .before .before .before .before .args .out .now in
-    let w = c .before .before .before .before .write in
-    let problem = c .before .before .before .before .before .before .problem-of .ensures ∙ ap problemOf (c .before .before .before .before .before .before .before .before .with-edition .ensures) in
+    let w = wrote c in
+    let n = numbered (made w) in
+    let out = entry n .args .out .now in
+    let problem = made w .problem-of .ensures ∙ ap problemOf (n .with-edition .ensures) in
     told-with _ _ _ _ _
-    (ap onWritten (w .ensures .0 ∙ ap (λ (p : Problem). writeProblem p (length out)) problem))
+    (ap onWritten (w .write .ensures .0 ∙ ap (λ (p : Problem). writeProblem p (length out)) problem))
     (c .tell-written .ensures .0)
     (c .tell-written .ensures .1)
-    (w .ensures .1 ∙ ap (λ (p : Problem). writtenBuffer p out) problem)
+    (w .write .ensures .1 ∙ ap (λ (p : Problem). writtenBuffer p out) problem)
 
 pub examiner-write-fields-spec : {M : Type 1} → statement M
 examiner-write-fields-spec =

@@ -4,12 +4,13 @@ use borrow.Author.Needs.{needs}
 use Rattle.examiner.proofs.Edition.{WithEdition, with-none, with-more, with-all}
 use Rattle.examiner.proofs.with_edition.Statement.{statement}
 use Rattle.examiner.proofs.with_edition.Tie as tie
+use Rattle.model.specs.Places as places
 
 abbrev Inv-loop : tie.InvT-loop
 Inv-loop fields numbers₀ i₀ numbers i = WithEdition fields i numbers
 
 abbrev μ-loop : tie.MeasureT-loop
-μ-loop fields numbers₀ i₀ numbers i = 1445 - i
+μ-loop fields numbers₀ i₀ numbers i = places.fieldCount - i
 
 array-write-numbers : tie.Need-array-write-numbers Inv-loop μ-loop
 array-write-numbers c = search needs

@@ -5,8 +5,8 @@ use borrow.Author.Needs.{needs}
 use Rattle.fields.proofs.from_header.Statement.{statement}
 use Rattle.fields.proofs.from_header.Tie as tie
 
-sub-before : tie.Need-sub-before
-sub-before c = omega (arith, last-place _ _ (c .before .before .before .pre .above) (c .before .if1 .taken))
+sub-header : tie.Need-sub-header
+sub-header c = omega (arith, last-place _ _ (c .before .before .before .pre .above) (c .before .if1 .taken))
 
 mul-result : tie.Need-mul-result
 mul-result c = search needs
@@ -22,4 +22,4 @@ returns-2 c = any-header _ _ _ (c .if1 .left)
 
 pub from-header-spec : {M : Type 1} → statement M
 from-header-spec =
-    tie.close (tie.spec sub-before mul-result element-copy-out-result returns returns-2)
+    tie.close (tie.spec sub-header mul-result element-copy-out-result returns returns-2)

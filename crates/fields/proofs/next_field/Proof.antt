@@ -26,7 +26,9 @@ add-t7 : tie.Need-add-t7
 add-t7 c = search needs
 
 returns-3 : tie.Need-returns-3
-returns-3 c = next-within _ _ _ (c .before .before .before .before .look-up .ensures) (c .before .before .before .if1 .left) (c .before .before .if2 .left)
+returns-3 c =
+    let other = c .before .before in
+    next-within _ _ _ (other .before .before .look-up .ensures) (other .before .if1 .left) (other .if2 .left)
 
 pub next-field-spec : {M : Type 1} → statement M
 next-field-spec =

@@ -2,12 +2,12 @@
 use mathlib.Core.Path.{refl}
 use Rattle.model.specs.Numbers.{tableFrom}
 use Rattle.model.specs.Table.{limits, bases, kinds, jumps, counts}
-use Rattle.fields.specs.Rows.{rows}
+use Rattle.fields.specs.Rows.{entries}
 use Rattle.fields.proofs.table.Statement.{statement}
 use Rattle.fields.proofs.table.Tie as tie
 
 returns : tie.Need-returns
-unfolding rows tableFrom limits bases kinds jumps counts
+unfolding entries tableFrom limits bases kinds jumps counts
 returns c = refl
 
 pub table-spec : {M : Type 1} → statement M

@@ -1,6 +1,6 @@
 -- `check` meets its definition: the fields, then the graph.
 use mathlib.Core.Path.{sym, _∙_}
-use Rattle.file.proofs.Counts.{placed}
+use Rattle.facts.proofs.Facts.{field-facts}
 use Rattle.file.proofs.Stages.{bad-fields, after-graph}
 use borrow.Author.Needs.{needs}
 use Rattle.file.proofs.check.Statement.{statement}
@@ -19,7 +19,7 @@ returns : tie.Need-returns
 returns c = bad-fields _ _ (c .before .before .check-fields .ensures) _ (c .enum-told .given .1)
 
 judge-requires : tie.Need-judge-requires
-judge-requires c κs = placed _ _ (sym (c .before .before .before .check-fields .ensures) ∙ c .before .fields .given .1)
+judge-requires c κs = field-facts _ _ (sym (c .before .before .before .check-fields .ensures) ∙ c .before .fields .given .1)
 
 enum-told-2 : tie.Need-enum-told-2
 enum-told-2 c = search needs
@@ -27,11 +27,18 @@ enum-told-2 c = search needs
 enum-known-graph : tie.Need-enum-known-graph
 enum-known-graph c = search needs
 
+abbrev passed : tie.After-judge → tie.After-check-fields
+passed c = c .before .before .before .before
+
 returns-2 : tie.Need-returns-2
-returns-2 c = after-graph _ _ (c .before .before .before .before .before .before .check-fields .ensures) _ (c .before .before .before .before .fields .given .1) _ (c .before .before .judge .ensures) _ (c .enum-told2 .given .1)
+returns-2 c =
+    let j = c .before .before in
+    after-graph _ _ (passed j .check-fields .ensures) _ (j .before .before .fields .given .1) _ (j .judge .ensures) _ (c .enum-told2 .given .1)
 
 returns-3 : tie.Need-returns-3
-returns-3 c = after-graph _ _ (c .before .before .before .before .before .before .before .check-fields .ensures) _ (c .before .before .before .before .before .fields .given .1) _ (c .before .before .before .judge .ensures) _ (c .before .graph .given .1)
+returns-3 c =
+    let j = c .before .before .before in
+    after-graph _ _ (passed j .check-fields .ensures) _ (j .before .before .fields .given .1) _ (j .judge .ensures) _ (c .before .graph .given .1)
 
 pub check-spec : {M : Type 1} → statement M
 check-spec =

@@ -1,8 +1,8 @@
 -- `graph::judge_found` is its definition: rule 7 by the lowest bad range, and the others on its good case.
 use mathlib.Core.Path.{_∙_}
 use native.Mathlib.Omega.{arith}
-use Rattle.graph.specs.Counts.{edgesIn}
-use Rattle.graph.proofs.Found.{found-bad, found-none}
+use Rattle.lookup.specs.Lists.{edgesIn}
+use Rattle.graph.proofs.Loops.{found-bad, found-none}
 use borrow.Author.Needs.{needs}
 use Rattle.graph.proofs.judge_found.Statement.{statement}
 use Rattle.graph.proofs.judge_found.Tie as tie

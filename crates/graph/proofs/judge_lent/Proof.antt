@@ -54,9 +54,10 @@ use Rattle.model.proofs.Loop as T
 use Rattle.model.proofs.Loop.Laws as T′
 use Rattle.model.proofs.Verdict as Out
 use Rattle.model.proofs.Verdict.Laws as Out′
-use Rattle.graph.specs.Counts.{Placed, verticesIn, edgesIn, loopsIn}
-use Rattle.graph.specs.Lent.{loopRules}
-use Rattle.graph.proofs.Lent.{answers}
+use Rattle.facts.specs.Fields.{FieldFacts}
+use Rattle.lookup.specs.Lists.{verticesIn, edgesIn, loopsIn}
+use Rattle.ranges.proofs.Steps.{answers}
+use Rattle.graph.specs.Loops.{loopRules}
 use Rattle.graph.proofs.judge_loops as top
 use Rattle.graph.proofs.judge_loops.Symbol as top-def
 use Rattle.graph.proofs.judge_loops.Symbol.{name as #top}
@@ -65,15 +66,16 @@ use Rattle.graph.proofs.judge_lent.Key.{name as #key}
 use Rattle.graph.proofs.judge_lent as f
 use Rattle.graph.proofs.judge_lent.Statement as stated
 use Rattle.graph.proofs.judge_lent.Code as code
+use Rattle.model.specs.Places as places
 
 abbrev R : RattleType
 R = T.the-row
 
 abbrev B : RattleType
-B = Array R 32
+B = Array R places.mostLoops
 
 abbrev Numbers : RattleType
-Numbers = Array u64 1446
+Numbers = Array u64 places.end
 
 abbrev stayed : Stays (f.ended .signature .params) (f.ended .kept)
 stayed = (stay-none (λ _. B) yes, (stay-none (λ _. usize) yes, (stay-none-ref (0 ∷ []) tt (plain (λ _. Numbers)) yes, tt)))
@@ -84,7 +86,7 @@ vals = array-vals (LL.vals T.the-type T′.the-laws)
 abbrev slice : Ty
 slice = sliceTy (tyRef erased imm (pointee (R .written)))
 
-taken : (all : List Loop) (n : ℕ) → length all ≡ 32 → n ≤ 32 → length (take n all) ≡ n
+taken : (all : List Loop) (n : ℕ) → length all ≡ places.mostLoops → n ≤ places.mostLoops → length (take n all) ≡ n
 taken all n len le = omega (arith, length-take n all)
 
 module _ {M : Type 1} (𝓤 : URA M) (H : Heap 𝓤) (A : Atoms 𝓤) (mem′ : Memory → SProp 𝓤) (run : Routine → Fun 𝓤) where
@@ -92,7 +94,7 @@ module _ {M : Type 1} (𝓤 : URA M) (H : Heap 𝓤) (A : Atoms 𝓤) (mem′ : 
   Top = tripleOf 𝓤 H A top.signature (top.spec 𝓤 H A mem′ run)
 
 module _ {M : Type 1} (𝓤 : URA M) (H : Heap 𝓤) (A : Atoms 𝓤) (W : Given 𝓤 H A) (mem′ : Memory → SProp 𝓤) (run : Routine → Fun 𝓤) (κ : Lft) (q : Share) (b′ o′ : ℕ) (γ′ : GName) (l : List ℕ)
-    (all : List Loop) (n : ℕ) (is-all : Is B all (vals all)) (placed : Placed l) (le : n ≤ 32) (is-loops : take n all ≡ loopsIn l) where
+    (all : List Loop) (n : ℕ) (is-all : Is B all (vals all)) (ok : FieldFacts l) (le : n ≤ places.mostLoops) (is-loops : take n all ≡ loopsIn l) where
   abbrev mach : Val
   mach = arrayVal (map (λ x. T′.lowered x) all)
 
@@ -114,14 +116,14 @@ module _ {M : Type 1} (𝓤 : URA M) (H : Heap 𝓤) (A : Atoms 𝓤) (W : Given
   abbrev Post : Val → SProp 𝓤
   Post = walkOf 𝓤 H A f.ended stayed (f.clauses 𝓤 H A mem′ run) .post bound
 
-  len : length all ≡ 32
+  len : length all ≡ places.mostLoops
   len = is-all .1 .0 .1
 
   lt : length (take n all) ≡ n
   lt = taken all n len le
 
-  typed : Holds (hasTy (tyArray T′.mir 32) mach) × WT mach
-  typed = array-typed R (LL.lawful T.the-type T′.the-laws 𝓤 H A W .typed) 32 all (vals all) is-all .0
+  typed : Holds (hasTy (tyArray T′.mir places.mostLoops) mach) × WT mach
+  typed = array-typed R (LL.lawful T.the-type T′.the-laws 𝓤 H A W .typed) places.mostLoops all (vals all) is-all .0
 
   nfits : n < 2 ^ 64
   nfits = omega arith
@@ -157,10 +159,10 @@ module _ {M : Type 1} (𝓤 : URA M) (H : Heap 𝓤) (A : Atoms 𝓤) (W : Given
         rewrite ! 0 (λ (us : List Val). ‵ (B .own all us)) (tells vs p) refl $ rewrite ! 1 (λ (us : List Val). ‵ (cellAt fullShare (B .mir) us m 0)) (tells vs p) refl $ move ! (1 ∷ 0 ∷ []) $ done !))
       where
         tells : (vs : List Val) → Is B all vs → vs ≡ vals all
-        tells vs p = array-tells R (LL.vals T.the-type T′.the-laws) (LL.tells T.the-type T′.the-laws) 32 all vs p
+        tells vs p = array-tells R (LL.vals T.the-type T′.the-laws) (LL.tells T.the-type T′.the-laws) places.mostLoops all vs p
 
     apart : ent 𝓤 (sem 𝓤 H A Part) (sep 𝓤 (sem 𝓤 H A First) (sem 𝓤 H A Others))
-    apart = qed W (‵ Part ∷ []) ∵ use1 W (‵ (arr-parts (shares R) 32 .part fullShare all m 0)) (array-apart 𝓤 H A W R fullShare tt 32 all m 0) $ fsplit ! $ drop ! $
+    apart = qed W (‵ Part ∷ []) ∵ use1 W (‵ (arr-parts (shares R) places.mostLoops .part fullShare all m 0)) (array-apart 𝓤 H A W R fullShare tt places.mostLoops all m 0) $ fsplit ! $ drop ! $
         use1 W (‵ (cells (mem R) all m 0)) (whole-in 𝓤 H A W R all m 0) $ rewrite ! 0 (λ (ys : List Loop). ‵ (cells (mem R) ys m 0)) (sym (take-append-drop n all)) refl $
         use1 W (‵ (cells (mem R) (take n all) m 0) ⊛ ‵ Others) (cut-app 𝓤 H A (mem R) (take n all) (drop-list n all) m 0) $ split ! $
         use1 W (‵ (row R fullShare (take n all) m 0)) (whole-out 𝓤 H A W R (take n all) m 0) $ feqI ! ℕ (length (take n all)) (length (take n all)) refl $ fjoin ! $ done !
@@ -169,8 +171,8 @@ module _ {M : Type 1} (𝓤 : URA M) (H : Heap 𝓤) (A : Atoms 𝓤) (W : Given
     together = qed W (‵ First ∷ ‵ Others ∷ []) ∵ fsplit ! $ drop ! $ use1 W (‵ (cells (mem R) (take n all) m 0)) (whole-in 𝓤 H A W R (take n all) m 0) $
         use2 W (‵ (cells (mem R) (take n all ++ drop-list n all) m 0)) (join-app 𝓤 H A (mem R) (take n all) (drop-list n all) m 0) $
         rewrite ! 0 (λ (ys : List Loop). ‵ (cells (mem R) ys m 0)) (take-append-drop n all) refl $
-        use1 W (‵ (row R fullShare all m 0)) (whole-out 𝓤 H A W R all m 0) $ feqI ! ℕ (length all) 32 len $ fjoin ! $
-        use1 W (‵ Part) (array-whole 𝓤 H A W R fullShare 32 all m 0) $ done !
+        use1 W (‵ (row R fullShare all m 0)) (whole-out 𝓤 H A W R all m 0) $ feqI ! ℕ (length all) places.mostLoops len $ fjoin ! $
+        use1 W (‵ Part) (array-whole 𝓤 H A W R fullShare places.mostLoops all m 0) $ done !
 
     -- ---- what the callee is passed, and what of its post is heard
     module _ (α : Lft) (γ : GName) where
@@ -190,7 +192,7 @@ module _ {M : Type 1} (𝓤 : URA M) (H : Heap 𝓤) (A : Atoms 𝓤) (W : Given
       to = (((α, (κ, tt)), (fullShare, (q, tt)), tt, (x, (y, tt)), (v ∷ [], (vptr b′ o′ ∷ [], tt))), tt)
 
       goes : ent 𝓤 (sep 𝓤 (mean 𝓤 H A Tokens) (sem 𝓤 H A (fsep Own (fsep Own′ ftrue)))) (Top 𝓤 H A mem′ run .pre to)
-      goes = qed W (Tokens ∷ ‵ (fsep Own (fsep Own′ ftrue)) ∷ []) ∵ says ! (placed, is-loops) $ frame ! $ done !
+      goes = qed W (Tokens ∷ ‵ (fsep Own (fsep Own′ ftrue)) ∷ []) ∵ says ! (ok, is-loops) $ frame ! $ done !
 
       abbrev Says : Verdict → SProp 𝓤
       Says = ensured 𝓤 H A top.ended (top.clauses 𝓤 H A mem′ run) (α, (κ, tt)) (x, (y, tt)) tt
@@ -210,7 +212,7 @@ module _ {M : Type 1} (𝓤 : URA M) (H : Heap 𝓤) (A : Atoms 𝓤) (W : Given
         assigns ! (agg ! (and-then ! (load ! (from ! (stop !)) (look ! 2 refl)) (and-then ! (load ! (from ! (stop !)) (look ! 8 refl)) (no-more !)))) (from ! (stop !)) (init ! 0 refl (tt, (tt, (record { fits = nfits }, tt)))) $
         rewrite ! 0 (λ (k : ℕ). ‵ (fat fullShare slice l₆ 0 (sliceVal (l₄, 0) k))) (sym lt) refl $
         -- the first n elements are lent for a new lifetime
-        move ! (15 ∷ []) $ fsplit ! $ move ! (6 ∷ 0 ∷ []) $ use1 W (‵ (cellAt fullShare (B .mir) (vals all) l₄ 0)) (W .laws .at-raw fullShare (tyArray T′.mir 32) l₄ 0 mach) $ use2 W (‵ (Part l₄)) (cell-in l₄) $
+        move ! (15 ∷ []) $ fsplit ! $ move ! (6 ∷ 0 ∷ []) $ use1 W (‵ (cellAt fullShare (B .mir) (vals all) l₄ 0)) (W .laws .at-raw fullShare (tyArray T′.mir places.mostLoops) l₄ 0 mach) $ use2 W (‵ (Part l₄)) (cell-in l₄) $
         use1 W (‵ (First l₄) ⊛ ‵ (Others l₄)) (apart l₄) $ split ! $ lft-new ! tt (λ α. move ! (1 ∷ []) $
         use1 W (later (some (λ (γ : GName). ‵ (Own l₄ (α ∷ []) γ) ⊛ ‵ (flent (α ∷ []) (First l₄))))) (lends-shr-slice 𝓤 H A W R (named 0) (α ∷ []) fullShare (take n all) l₄ 0 room) $ await ! tt $ pick ! (λ γ. split ! $
         -- [the slice; `lent`; the lifetime's token; the other elements; what else was passed; _6; …]
@@ -223,7 +225,8 @@ module _ {M : Type 1} (𝓤 : URA M) (H : Heap 𝓤) (A : Atoms 𝓤) (W : Given
         land ! (from ! (stop !)) (init ! 16 refl (EL.lawful Out.the-type Out′.the-laws 𝓤 H A W tt .typed verdict _ is .0)) $
         -- the lifetime ends, and the array is whole again
         split ! $ lft-end ! tt $ move ! (0 ∷ 4 ∷ []) $ lent-back ! tt $ move ! (0 ∷ 4 ∷ []) $ use2 W (‵ (Part l₄)) (together l₄) $
-        use1 W (‵ (cellAt fullShare (B .mir) (vals all) l₄ 0) ⊛ ‵ (B .own all (vals all))) (cell-out l₄) $ split ! $ use1 W (‵ (fat fullShare (tyArray T′.mir 32) l₄ 0 mach)) (W .laws .raw-at fullShare (tyArray T′.mir 32) l₄ 0 mach) $
+        use1 W (‵ (cellAt fullShare (B .mir) (vals all) l₄ 0) ⊛ ‵ (B .own all (vals all))) (cell-out l₄) $ split ! $
+        use1 W (‵ (fat fullShare (tyArray T′.mir places.mostLoops) l₄ 0 mach)) (W .laws .raw-at fullShare (tyArray T′.mir places.mostLoops) l₄ 0 mach) $
         returns ! (look ! 16 refl) $ forget ! 0 refl $ forget ! 5 refl $ forget ! 7 refl $ forget ! 10 refl $ forget ! 12 refl $ forget ! 14 refl $ forget ! 16 refl $
         move ! (16 ∷ 17 ∷ []) $ free1 ! $ move ! (14 ∷ 15 ∷ []) $ free1 ! $ move ! (12 ∷ 13 ∷ []) $ free1 ! $ move ! (10 ∷ 11 ∷ []) $ free1 ! $ move ! (0 ∷ 9 ∷ []) $ free1 ! $ move ! (6 ∷ 7 ∷ []) $ free1 ! $ move ! (4 ∷ 5 ∷ []) $ free1 ! $
         free0 ! $ keep ! (1 ∷ 0 ∷ 3 ∷ 2 ∷ []) $ by ! (exits u is)))))))))))
@@ -232,8 +235,8 @@ module _ {M : Type 1} (𝓤 : URA M) (H : Heap 𝓤) (A : Atoms 𝓤) (W : Given
   walks : Walks 𝓤 H A f.ended stayed (WpFn 𝓤 H (𝓣 .C) (𝓣 .Λ) code.function) (f.clauses 𝓤 H A mem′ run)
   walks =
       walked 𝓤 H A f.ended stayed (f.clauses 𝓤 H A mem′ run) (WpFn 𝓤 H (𝓣 .C) (𝓣 .Λ) code.function) (λ κs. (vals, (uint-vals w64, (ptr-vals, tt))))
-      (λ κs. (array-tells R (LL.vals T.the-type T′.the-laws) (LL.tells T.the-type T′.the-laws) 32, (uint-tells w64, (shr-tells (named 0) (κs .0) Numbers, tt))))
-      (λ κs qs bounds a g are. needs 𝓤 (Placed (now (a .1 .1 .0)) × ((a .1 .0 ≤ 32) × (take (a .1 .0) (a .0) ≡ loopsIn (now (a .1 .1 .0))))) _
+      (λ κs. (array-tells R (LL.vals T.the-type T′.the-laws) (LL.tells T.the-type T′.the-laws) places.mostLoops, (uint-tells w64, (shr-tells (named 0) (κs .0) Numbers, tt))))
+      (λ κs qs bounds a g are. needs 𝓤 (FieldFacts (now (a .1 .1 .0)) × ((a .1 .0 ≤ places.mostLoops) × (take (a .1 .0) (a .0) ≡ loopsIn (now (a .1 .1 .0))))) _
       (λ p. walk 𝓤 H A W mem′ run (κs .0) (qs .0) (a .1 .1 .0 .ptr .0) (a .1 .1 .0 .ptr .1) (a .1 .1 .0 .name) (a .1 .1 .0 .now) (a .0) (a .1 .0) (are .0) (p .0) (p .1 .0) (p .1 .1)
       (𝓣 .C) (𝓣 .Λ) (fmOf 𝓤 H (W .laws) 𝓣) known))
 

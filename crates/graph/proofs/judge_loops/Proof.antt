@@ -41,25 +41,28 @@ use Rattle.model.specs.Search.{lowestBelow}
 use Rattle.model.proofs.Loop as T
 use Rattle.model.proofs.Verdict as Out
 use Rattle.model.proofs.Verdict.Laws as Out′
-use Rattle.graph.specs.Counts.{Placed, verticesIn, edgesIn, loopsIn}
-use Rattle.graph.specs.Words.{marksOf}
-use Rattle.graph.specs.Lent.{badAt, Ranged, loopRules}
-use Rattle.graph.proofs.Places.{loops-ranged}
-use Rattle.graph.proofs.Found.{found-of}
-use Rattle.graph.proofs.Lent as lent
-use Rattle.graph.proofs.Lent.{Marks, marks-val, Good, marks-typed, marks-make, answers, tells, hands, marks, passes, asks}
+use Rattle.facts.specs.Fields.{FieldFacts}
+use Rattle.lookup.specs.Lists.{verticesIn, edgesIn, loopsIn}
+use Rattle.ranges.specs.Ranges.{badAt, Ranged}
+use Rattle.ranges.specs.Marks.{marksOf}
+use Rattle.ranges.proofs.Listed.{loops-ranged}
+use Rattle.graph.specs.Loops.{loopRules}
+use Rattle.graph.proofs.Loops.{found-of}
+use Rattle.ranges.proofs.Steps.{answers, tells, hands}
+use Rattle.ranges.proofs.Lent as lent
+use Rattle.ranges.proofs.Lent.{Marks, marks-val, Good, marks-typed, marks-make, marks, passes, asks}
 use Rattle.graph.proofs.last_vertex as end
 use Rattle.graph.proofs.last_vertex.Symbol as end-def
 use Rattle.graph.proofs.last_vertex.Symbol.{name as #end}
 use Rattle.graph.proofs.last_vertex.Met as end-thm
-use Rattle.graph.proofs.first_bad as bad
-use Rattle.graph.proofs.first_bad.Symbol as bad-def
-use Rattle.graph.proofs.first_bad.Symbol.{name as #bad}
-use Rattle.graph.proofs.first_bad.Met as bad-thm
-use Rattle.graph.proofs.marks_of as mark
-use Rattle.graph.proofs.marks_of.Symbol as mark-def
-use Rattle.graph.proofs.marks_of.Symbol.{name as #mark}
-use Rattle.graph.proofs.marks_of.Met as mark-thm
+use Rattle.ranges.proofs.first_bad as bad
+use Rattle.ranges.proofs.first_bad.Symbol as bad-def
+use Rattle.ranges.proofs.first_bad.Symbol.{name as #bad}
+use Rattle.ranges.proofs.first_bad.Met as bad-thm
+use Rattle.ranges.proofs.marks_of as mark
+use Rattle.ranges.proofs.marks_of.Symbol as mark-def
+use Rattle.ranges.proofs.marks_of.Symbol.{name as #mark}
+use Rattle.ranges.proofs.marks_of.Met as mark-thm
 use Rattle.graph.proofs.judge_found as rest
 use Rattle.graph.proofs.judge_found.Symbol as rest-def
 use Rattle.graph.proofs.judge_found.Symbol.{name as #rest}
@@ -68,9 +71,10 @@ use Rattle.graph.proofs.judge_loops.Key.{name as #key}
 use Rattle.graph.proofs.judge_loops as f
 use Rattle.graph.proofs.judge_loops.Statement as stated
 use Rattle.graph.proofs.judge_loops.Code as code
+use Rattle.model.specs.Places as places
 
 abbrev Numbers : RattleType
-Numbers = Array u64 1446
+Numbers = Array u64 places.end
 
 abbrev stayed : Stays (f.ended .signature .params) (f.ended .kept)
 stayed = (stay-none-slice (0 ∷ []) tt (plain (λ _. T.the-row)) yes, (stay-none-ref (1 ∷ []) tt (plain (λ _. Numbers)) yes, tt))
@@ -90,7 +94,7 @@ module _ {M : Type 1} (𝓤 : URA M) (H : Heap 𝓤) (A : Atoms 𝓤) (mem : Mem
   Rest = tripleOf 𝓤 H A rest.signature (rest.spec 𝓤 H A mem run)
 
 module _ {M : Type 1} (𝓤 : URA M) (H : Heap 𝓤) (A : Atoms 𝓤) (W : Given 𝓤 H A) (mem : Memory → SProp 𝓤) (run : Routine → Fun 𝓤) (κ : Lft) (q : Share) (b o : ℕ) (γ : GName) (ys : List Loop)
-    (κ′ : Lft) (q′ : Share) (b′ o′ : ℕ) (γ′ : GName) (l : List ℕ) (placed : Placed l) (is-loops : ys ≡ loopsIn l) where
+    (κ′ : Lft) (q′ : Share) (b′ o′ : ℕ) (γ′ : GName) (l : List ℕ) (ok : FieldFacts l) (is-loops : ys ≡ loopsIn l) where
   abbrev x : RefT (List Loop)
   x = lent.list 𝓤 H A W κ q b o γ ys
 
@@ -116,7 +120,7 @@ module _ {M : Type 1} (𝓤 : URA M) (H : Heap 𝓤) (A : Atoms 𝓤) (W : Given
   twice′ = shr-copy 𝓤 H A W (named 0) κ′ Numbers .twice y (vptr b′ o′ ∷ [])
 
   ranged : Ranged ys
-  ranged = subst (λ (ls : List Loop). Ranged ls) (sym is-loops) (loops-ranged l placed)
+  ranged = subst (λ (ls : List Loop). Ranged ls) (sym is-loops) (loops-ranged l ok)
 
   abbrev last : ℕ
   last = verticesIn l - 1
@@ -151,7 +155,7 @@ module _ {M : Type 1} (𝓤 : URA M) (H : Heap 𝓤) (A : Atoms 𝓤) (W : Given
   Ends = ensured 𝓤 H A end.ended (end.clauses 𝓤 H A mem run) (κ′, tt) (y, tt) tt
 
   goes-end : ent 𝓤 (sep 𝓤 (mean 𝓤 H A Token′) (sem 𝓤 H A Own′)) (End 𝓤 H A mem run .pre to-end)
-  goes-end = qed W (Token′ ∷ ‵ Own′ ∷ []) ∵ says ! (placed .counted) $ frame ! $ nothing ! $ move ! (1 ∷ 0 ∷ []) $ fjoin ! $ done !
+  goes-end = qed W (Token′ ∷ ‵ Own′ ∷ []) ∵ says ! ok $ frame ! $ nothing ! $ move ! (1 ∷ 0 ∷ []) $ fjoin ! $ done !
 
   said-end : (r : ℕ) → ent 𝓤 (Ends r) (fact 𝓤 (r ≡ last))
   said-end r = exE 𝓤 _ (λ ws. snd∗ 𝓤 (sem 𝓤 H A (lasts end.ended (κ′, tt) (y, tt) ws)) (fact 𝓤 (r ≡ last)))
@@ -188,7 +192,7 @@ module _ {M : Type 1} (𝓤 : URA M) (H : Heap 𝓤) (A : Atoms 𝓤) (W : Given
 
   goes-rest : bad-one < 2 ^ 64 → Good made → ent 𝓤 (sep 𝓤 (mean 𝓤 H A Token′) (sem 𝓤 H A Own′)) (Rest 𝓤 H A mem run .pre to-rest)
   goes-rest gb gm =
-      qed W (Token′ ∷ ‵ Own′ ∷ []) ∵ says ! (placed, found-of (verticesIn l) is-loops) $ frame ! $ nothing ! $ owned ! Marks (Is Marks) (marks-make 𝓤 H A W) made _ gm $ fjoin ! $
+      qed W (Token′ ∷ ‵ Own′ ∷ []) ∵ says ! (ok, found-of (verticesIn l) is-loops) $ frame ! $ nothing ! $ owned ! Marks (Is Marks) (marks-make 𝓤 H A W) made _ gm $ fjoin ! $
       owned ! usize (Is usize) (uint-makes 𝓤 H A W w64) bad-one _ (refl, gb) $ fjoin ! $ move ! (1 ∷ 0 ∷ []) $ fjoin ! $ done !
 
   said-rest : (r : Verdict) → ent 𝓤 (Rests r) (fact 𝓤 (r ≡ verdict))
@@ -230,13 +234,14 @@ module _ {M : Type 1} (𝓤 : URA M) (H : Heap 𝓤) (A : Atoms 𝓤) (W : Given
         move ! (15 ∷ 16 ∷ []) $ free1 ! $ move ! (13 ∷ 14 ∷ []) $ free1 ! $ move ! (11 ∷ 12 ∷ []) $ free1 ! $ move ! (9 ∷ 10 ∷ []) $ free1 ! $ move ! (7 ∷ 8 ∷ []) $ free1 ! $ move ! (5 ∷ 6 ∷ []) $ free1 ! $
         free0 ! $ keep ! (2 ∷ 3 ∷ 0 ∷ 1 ∷ []) $ by ! (exits u is)))))))))))
 
-module _ {M : Type 1} (𝓤 : URA M) (H : Heap 𝓤) (A : Atoms 𝓤) (W : Given 𝓤 H A) (mem : Memory → SProp 𝓤) (run : Routine → Fun 𝓤) (𝓣 : Tables 𝓤 H) (known-end : Triple 𝓤 (𝓣 .C #end) (End 𝓤 H A mem run)) (known-bad : Triple 𝓤 (𝓣 .C #bad) (Bad 𝓤 H A mem run))
+module _ {M : Type 1} (𝓤 : URA M) (H : Heap 𝓤) (A : Atoms 𝓤) (W : Given 𝓤 H A) (mem : Memory → SProp 𝓤) (run : Routine → Fun 𝓤) (𝓣 : Tables 𝓤 H)
+    (known-end : Triple 𝓤 (𝓣 .C #end) (End 𝓤 H A mem run)) (known-bad : Triple 𝓤 (𝓣 .C #bad) (Bad 𝓤 H A mem run))
     (known-mark : Triple 𝓤 (𝓣 .C #mark) (Mark 𝓤 H A mem run)) (known-rest : Triple 𝓤 (𝓣 .C #rest) (Rest 𝓤 H A mem run)) where
   walks : Walks 𝓤 H A f.ended stayed (WpFn 𝓤 H (𝓣 .C) (𝓣 .Λ) code.function) (f.clauses 𝓤 H A mem run)
   walks =
       walked 𝓤 H A f.ended stayed (f.clauses 𝓤 H A mem run) (WpFn 𝓤 H (𝓣 .C) (𝓣 .Λ) code.function) (λ κs. (slice-vals, (ptr-vals, tt)))
       (λ κs. (shr-slice-tells (named 0) (κs .0) T.the-row, (shr-tells (named 1) (κs .1 .0) Numbers, tt)))
-      (λ κs qs bounds a g are. needs 𝓤 (Placed (now (a .1 .0)) × (now (a .0) ≡ loopsIn (now (a .1 .0)))) _
+      (λ κs qs bounds a g are. needs 𝓤 (FieldFacts (now (a .1 .0)) × (now (a .0) ≡ loopsIn (now (a .1 .0)))) _
       (λ p. walk 𝓤 H A W mem run (κs .0) (qs .0) (a .0 .ptr .0) (a .0 .ptr .1) (a .0 .name) (a .0 .now) (κs .1 .0) (qs .1 .0) (a .1 .0 .ptr .0) (a .1 .0 .ptr .1) (a .1 .0 .name) (a .1 .0 .now) (p .0) (p .1)
       𝓣 known-end known-bad known-mark known-rest (are .0 .0 .1)))
 
@@ -252,6 +257,6 @@ judge-loops-spec 𝓤 H 𝓜 𝓖 𝓡 =
     (tables 𝓤 H 𝓜 𝓡 code.env .C) (tables 𝓤 H 𝓜 𝓡 code.env .Λ) #key code.function (code.unfolded 𝓤 H 𝓜 𝓡)
     (meets 𝓤 H (𝓖 .A) (givenOf 𝓤 H 𝓜 𝓖) (𝓜 .mem) (𝓡 .run) (tablesOf 𝓤 H 𝓜 (tables 𝓤 H 𝓜 𝓡 code.env))
     (cited 𝓤 H (End 𝓤 H (𝓖 .A) (𝓜 .mem) (𝓡 .run)) 𝓜 𝓡 code.env #end end-def.routine code.calls-graph·last-vertex (end-thm.met 𝓤 H 𝓜 𝓖 𝓡))
-    (cited 𝓤 H (Bad 𝓤 H (𝓖 .A) (𝓜 .mem) (𝓡 .run)) 𝓜 𝓡 code.env #bad bad-def.routine code.calls-graph·first-bad (bad-thm.met 𝓤 H 𝓜 𝓖 𝓡))
-    (cited 𝓤 H (Mark 𝓤 H (𝓖 .A) (𝓜 .mem) (𝓡 .run)) 𝓜 𝓡 code.env #mark mark-def.routine code.calls-graph·marks-of (mark-thm.met 𝓤 H 𝓜 𝓖 𝓡))
+    (cited 𝓤 H (Bad 𝓤 H (𝓖 .A) (𝓜 .mem) (𝓡 .run)) 𝓜 𝓡 code.env #bad bad-def.routine code.calls-ranges·first-bad (bad-thm.met 𝓤 H 𝓜 𝓖 𝓡))
+    (cited 𝓤 H (Mark 𝓤 H (𝓖 .A) (𝓜 .mem) (𝓡 .run)) 𝓜 𝓡 code.env #mark mark-def.routine code.calls-ranges·marks-of (mark-thm.met 𝓤 H 𝓜 𝓖 𝓡))
     (cited 𝓤 H (Rest 𝓤 H (𝓖 .A) (𝓜 .mem) (𝓡 .run)) 𝓜 𝓡 code.env #rest rest-def.routine code.calls-graph·judge-found (rest-thm.met 𝓤 H 𝓜 𝓖 𝓡)))

@@ -1,6 +1,6 @@
 -- `graph::last_vertex` is the number below the count.
 use native.Mathlib.Omega.{arith}
-use Rattle.graph.proofs.Places.{some-vertex}
+use Rattle.lookup.proofs.Places.{some-vertex}
 use borrow.Author.Needs.{needs}
 use Rattle.graph.proofs.last_vertex.Statement.{statement}
 use Rattle.graph.proofs.last_vertex.Tie as tie

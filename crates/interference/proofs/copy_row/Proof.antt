@@ -3,7 +3,7 @@ use Prim.Native.Nat.{_≤_, _-_}
 use mathlib.Core.Path.{refl}
 use native.Mathlib.Omega.{arith}
 use Rattle.interference.specs.Copies.{RowCopied}
-use Rattle.interference.proofs.Sweeps.{all-done}
+use Rattle.model.proofs.Cases.{all-done}
 use Rattle.interference.proofs.Copies.{no-word, one-word}
 use Rattle.interference.proofs.copy_row.Statement.{statement}
 use Rattle.interference.proofs.copy_row.Tie as tie

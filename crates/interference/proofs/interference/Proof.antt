@@ -8,8 +8,8 @@ use Rattle.interference.proofs.interference.Tie as tie
 numbers-of-requires : tie.Need-numbers-of-requires
 numbers-of-requires c κs = search needs
 
-check-requires : tie.Need-check-requires
-check-requires c κs = search needs
+judge-requires : tie.Need-judge-requires
+judge-requires c κs = search needs
 
 enum-told : tie.Need-enum-told
 enum-told c = search needs
@@ -18,26 +18,46 @@ enum-told-2 : tie.Need-enum-told-2
 enum-told-2 c = search needs
 
 refusal-in-requires : tie.Need-refusal-in-requires
-refusal-in-requires c κs = search needs
+refusal-in-requires c κs = (_, c .enum-told2 .given .1)
+
+abbrev numbered : tie.After-judge → tie.After-numbers-of
+numbered c = c .before .before
+
+abbrev refused : tie.After-refusal-in → tie.After-judge
+refused c = c .before .before .before
 
 returns : tie.Need-returns
-returns c = not-checked _ _ _ (c .before .before .before .before .before .numbers-of .ensures) _ (c .before .before .before .check .ensures) _ _ (c .before .enum-told2 .given .1) (c .refusal-in .ensures)
+returns c =
+    not-checked _ _ _ (numbered (refused c) .numbers-of .ensures) _ (refused c .judge .ensures) _ (c .refusal-in .ensures)
+
+abbrev passed : tie.After-interference-checked-arg → tie.After-enum-told
+passed c = c .before .before
+
+abbrev judged : tie.After-interference-checked-arg → tie.After-judge
+judged c = passed c .before .before
 
 interference-checked-requires : tie.Need-interference-checked-requires
-interference-checked-requires c κs = opened _ _ (c .before .before .before .before .before .before .numbers-of .ensures) _ (c .before .before .before .before .check .ensures) _ (c .before .before .enum-told .given .1)
+interference-checked-requires c κs =
+    opened _ _ (numbered (judged c) .numbers-of .ensures) _ (judged c .judge .ensures) (passed c .enum-told .given .1)
 
 same-length : tie.Need-same-length
 same-length c = search needs
 
+abbrev answered : tie.After-slice-known2 → tie.After-interference-checked
+answered c = c .before .before
+
 returns-2 : tie.Need-returns-2
-returns-2 c = own-says _ _ _ (c .before .before .before .before .before .before .before .before .before .numbers-of .ensures) _ (c .before .before .before .before .before .before .before .check .ensures) _ (c .before .before .interference-checked .result) (c .before .before .interference-checked .ensures)
+returns-2 c =
+    let d = judged (answered c .before) in
+    own-says _ _ _ (numbered d .numbers-of .ensures) _ (d .judge .ensures) _ (answered c .interference-checked .result)
+    (answered c .interference-checked .ensures)
 
 pub interference-spec : {M : Type 1} → statement M
 interference-spec =
     tie.close
     (tie.spec
     numbers-of-requires
-    check-requires
+    judge-requires
     enum-told
     enum-told-2
     refusal-in-requires

@@ -10,8 +10,8 @@ mul-t6 c = search needs
 element-copy-out-t9 : tie.Need-element-copy-out-t9
 element-copy-out-t9 c = search needs
 
-larger-requires : tie.Need-larger-requires
-larger-requires c κs = search needs
+larger-bytes-requires : tie.Need-larger-bytes-requires
+larger-bytes-requires c κs = search needs
 
 mul-sizes : tie.Need-mul-sizes
 mul-sizes c = search needs
@@ -20,7 +20,7 @@ element-write-sizes : tie.Need-element-write-sizes
 element-write-sizes c = search needs
 
 returns : tie.Need-returns
-returns c = in-region (c .before .before .before .pre) _ (c .before .before .if1 .taken) (c .larger .ensures)
+returns c = in-region (c .before .before .before .pre) _ (c .before .before .if1 .taken) (c .larger-bytes .ensures)
 
 returns-2 : tie.Need-returns-2
 returns-2 c = in-none (c .before .pre) _ (c .if1 .left)
@@ -31,7 +31,7 @@ enlarge-spec =
     (tie.spec
     mul-t6
     element-copy-out-t9
-    larger-requires
+    larger-bytes-requires
     mul-sizes
     element-write-sizes
     returns

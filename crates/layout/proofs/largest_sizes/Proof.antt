@@ -2,6 +2,7 @@
 use Prim.Native.Nat.{_-_}
 use native.Mathlib.Omega.{arith}
 use borrow.Author.Needs.{needs}
+use Rattle.lookup.proofs.Places.{facts}
 use Rattle.model.specs.Numbers.{problemOf}
 use Rattle.layout.proofs.Sizes.{Sizing, none-sized, one-sized, all-sized}
 use Rattle.layout.proofs.largest_sizes.Statement.{statement}
@@ -13,6 +14,13 @@ Inv-loop l layout sizes₀ count f₀ sizes f = Sizing (problemOf l) layout f si
 abbrev μ-loop : tie.MeasureT-loop
 μ-loop l layout sizes₀ count f₀ sizes f = count - f
 
+-- The turn sizes function f.
+abbrev turn : tie.After-region-of Inv-loop μ-loop → tie.At-loop Inv-loop μ-loop
+turn c = c .before .before .before
+
+abbrev entry : tie.At-loop Inv-loop μ-loop → tie.Start Inv-loop μ-loop
+entry c = c .before .before .before .before
+
 function-count-requires : tie.Need-function-count-requires Inv-loop μ-loop
 function-count-requires c κs = search needs
 
@@ -23,10 +31,10 @@ region-of-requires : tie.Need-region-of-requires Inv-loop μ-loop
 region-of-requires c κs = search needs
 
 size-of-requires : tie.Need-size-of-requires Inv-loop μ-loop
-size-of-requires c κs = search needs
+size-of-requires c κs = (facts _ (entry (turn c) .pre), omega arith)
 
 enlarge-requires : tie.Need-enlarge-requires Inv-loop μ-loop
-enlarge-requires c κs = c .before .before .before .before .loop .inv .long
+enlarge-requires c κs = turn (c .before) .loop .inv .long
 
 add-f : tie.Need-add-f Inv-loop μ-loop
 add-f c = search needs
@@ -35,7 +43,9 @@ loop-less : tie.Need-loop-less Inv-loop μ-loop
 loop-less c = search needs
 
 loop-again : tie.Need-loop-again Inv-loop μ-loop
-loop-again c = one-sized _ _ (c .before .before .before .before .before .loop .inv) (omega arith) (c .before .before .region-of .ensures) (c .before .size-of .ensures) (c .enlarge .ensures)
+loop-again c =
+    let r = c .before .before in
+    one-sized _ _ (turn r .loop .inv) (omega arith) (r .region-of .ensures) (c .before .size-of .ensures) (c .enlarge .ensures)
 
 returns : tie.Need-returns Inv-loop μ-loop
 returns c = all-sized _ _ (c .before .loop .inv) (omega arith)

@@ -1,10 +1,11 @@
--- `layout::lowest_unknown` is the search for the lowest function with a region above 31.
+-- `layout::lowest_unknown` is the search for the lowest function with a region above the last.
 use Prim.Native.Nat.{_-_}
 use mathlib.Core.Path.{_∙_}
 use native.Mathlib.Omega.{arith}
 use borrow.Author.Needs.{needs}
 use borrow.Author.Tests.{lt-ltb, le-ltb}
 use lib.Dec.{ltb}
+use Rattle.model.specs.Limits.{mostRegions}
 use Rattle.model.specs.Numbers.{problemOf}
 use Rattle.model.specs.Layouts.{regionOf}
 use Rattle.model.proofs.Search.{Searched, start, miss, hit, none}
@@ -12,7 +13,7 @@ use Rattle.layout.proofs.lowest_unknown.Statement.{statement}
 use Rattle.layout.proofs.lowest_unknown.Tie as tie
 
 abbrev Inv-loop : tie.InvT-loop
-Inv-loop l layout count f₀ f = Searched (problemOf l .«function_count») (λ g. ltb 31 (regionOf layout g)) f
+Inv-loop l layout count f₀ f = Searched (problemOf l .«function_count») (λ g. ltb (mostRegions - 1) (regionOf layout g)) f
 
 abbrev μ-loop : tie.MeasureT-loop
 μ-loop l layout count f₀ f = count - f
@@ -29,7 +30,7 @@ region-of-requires c κs = search needs
 returns : tie.Need-returns Inv-loop μ-loop
 returns c =
     hit (c .before .before .before .loop .inv) (omega arith)
-    (rw (← c .before .region-of .ensures) (lt-ltb 31 _ (c .if1 .taken)))
+    (rw (← c .before .region-of .ensures) (lt-ltb (mostRegions - 1) _ (c .if1 .taken)))
 
 add-f : tie.Need-add-f Inv-loop μ-loop
 add-f c = search needs
@@ -40,7 +41,7 @@ loop-less c = search needs
 loop-again : tie.Need-loop-again Inv-loop μ-loop
 loop-again c =
     miss (c .before .before .before .loop .inv) (omega arith)
-    (rw (← c .before .region-of .ensures) (le-ltb 31 _ (c .if1 .left)))
+    (rw (← c .before .region-of .ensures) (le-ltb (mostRegions - 1) _ (c .if1 .left)))
 
 returns-2 : tie.Need-returns-2 Inv-loop μ-loop
 returns-2 c = c .before .before .function-count .ensures ∙ none (c .before .loop .inv) (omega arith)

@@ -3,18 +3,19 @@ use Prim.Native.Nat.{_-_}
 use borrow.Author.Needs.{needs}
 use Rattle.model.specs.Zero.{zeroEdge}
 use Rattle.model.specs.Numbers.{edgeAt}
-use Rattle.numbers.proofs.Filling.{Filled, filled-none, filled-more, filled-all}
+use Rattle.numbers.proofs.Filling.{FilledTo, filled-none, filled-more, filled-all}
 use Rattle.numbers.proofs.edges_of.Statement.{statement}
 use Rattle.numbers.proofs.edges_of.Tie as tie
+use Rattle.model.specs.Places as places
 
 abbrev Inv-loop : tie.InvT-loop
-Inv-loop l out₀ i₀ out i = Filled (edgeAt l) 512 i zeroEdge out
+Inv-loop l out₀ i₀ out i = FilledTo (edgeAt l) places.mostEdges i zeroEdge out
 
 abbrev μ-loop : tie.MeasureT-loop
-μ-loop l out₀ i₀ out i = 512 - i
+μ-loop l out₀ i₀ out i = places.mostEdges - i
 
 loop-holds : tie.Need-loop-holds Inv-loop μ-loop
-loop-holds c = filled-none (edgeAt (c .args .l .now)) 512 zeroEdge
+loop-holds c = filled-none (edgeAt (c .args .l .now)) places.mostEdges zeroEdge
 
 mul-t6 : tie.Need-mul-t6 Inv-loop μ-loop
 mul-t6 c = search needs
@@ -54,11 +55,11 @@ loop-less c = search needs
 
 loop-again : tie.Need-loop-again Inv-loop μ-loop
 loop-again c =
-    filled-more (edgeAt (c .before .before .before .before .args .l .now)) 512 _ zeroEdge _ (c .before .before .loop-test .taken)
-    (c .before .before .before .loop .inv)
+    let turn = c .before .before in
+    filled-more (edgeAt (turn .before .before .args .l .now)) places.mostEdges _ zeroEdge _ (turn .loop-test .taken) (turn .before .loop .inv)
 
 returns : tie.Need-returns Inv-loop μ-loop
-returns c = filled-all (edgeAt (c .before .before .args .l .now)) 512 _ zeroEdge _ (c .loop-test .left) (c .before .loop .inv)
+returns c = filled-all (edgeAt (c .before .before .args .l .now)) places.mostEdges _ zeroEdge _ (c .loop-test .left) (c .before .loop .inv)
 
 pub edges-of-spec : {M : Type 1} → statement M
 edges-of-spec =

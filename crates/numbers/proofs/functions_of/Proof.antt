@@ -3,18 +3,19 @@ use Prim.Native.Nat.{_-_}
 use borrow.Author.Needs.{needs}
 use Rattle.model.specs.Zero.{zeroFunction}
 use Rattle.model.specs.Numbers.{functionAt}
-use Rattle.numbers.proofs.Filling.{Filled, filled-none, filled-more, filled-all}
+use Rattle.numbers.proofs.Filling.{FilledTo, filled-none, filled-more, filled-all}
 use Rattle.numbers.proofs.functions_of.Statement.{statement}
 use Rattle.numbers.proofs.functions_of.Tie as tie
+use Rattle.model.specs.Places as places
 
 abbrev Inv-loop : tie.InvT-loop
-Inv-loop l out₀ i₀ out i = Filled (functionAt l) 32 i zeroFunction out
+Inv-loop l out₀ i₀ out i = FilledTo (functionAt l) places.mostFunctions i zeroFunction out
 
 abbrev μ-loop : tie.MeasureT-loop
-μ-loop l out₀ i₀ out i = 32 - i
+μ-loop l out₀ i₀ out i = places.mostFunctions - i
 
 loop-holds : tie.Need-loop-holds Inv-loop μ-loop
-loop-holds c = filled-none (functionAt (c .args .l .now)) 32 zeroFunction
+loop-holds c = filled-none (functionAt (c .args .l .now)) places.mostFunctions zeroFunction
 
 mul-t8 : tie.Need-mul-t8 Inv-loop μ-loop
 mul-t8 c = search needs
@@ -54,11 +55,11 @@ loop-less c = search needs
 
 loop-again : tie.Need-loop-again Inv-loop μ-loop
 loop-again c =
-    filled-more (functionAt (c .before .before .before .before .args .l .now)) 32 _ zeroFunction _ (c .before .before .loop-test .taken)
-    (c .before .before .before .loop .inv)
+    let turn = c .before .before in
+    filled-more (functionAt (turn .before .before .args .l .now)) places.mostFunctions _ zeroFunction _ (turn .loop-test .taken) (turn .before .loop .inv)
 
 returns : tie.Need-returns Inv-loop μ-loop
-returns c = filled-all (functionAt (c .before .before .args .l .now)) 32 _ zeroFunction _ (c .loop-test .left) (c .before .loop .inv)
+returns c = filled-all (functionAt (c .before .before .args .l .now)) places.mostFunctions _ zeroFunction _ (c .loop-test .left) (c .before .loop .inv)
 
 pub functions-of-spec : {M : Type 1} → statement M
 functions-of-spec =

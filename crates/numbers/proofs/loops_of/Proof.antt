@@ -3,18 +3,19 @@ use Prim.Native.Nat.{_-_}
 use borrow.Author.Needs.{needs}
 use Rattle.model.specs.Zero.{zeroLoop}
 use Rattle.model.specs.Numbers.{loopAt}
-use Rattle.numbers.proofs.Filling.{Filled, filled-none, filled-more, filled-all}
+use Rattle.numbers.proofs.Filling.{FilledTo, filled-none, filled-more, filled-all}
 use Rattle.numbers.proofs.loops_of.Statement.{statement}
 use Rattle.numbers.proofs.loops_of.Tie as tie
+use Rattle.model.specs.Places as places
 
 abbrev Inv-loop : tie.InvT-loop
-Inv-loop l out₀ i₀ out i = Filled (loopAt l) 32 i zeroLoop out
+Inv-loop l out₀ i₀ out i = FilledTo (loopAt l) places.mostLoops i zeroLoop out
 
 abbrev μ-loop : tie.MeasureT-loop
-μ-loop l out₀ i₀ out i = 32 - i
+μ-loop l out₀ i₀ out i = places.mostLoops - i
 
 loop-holds : tie.Need-loop-holds Inv-loop μ-loop
-loop-holds c = filled-none (loopAt (c .args .l .now)) 32 zeroLoop
+loop-holds c = filled-none (loopAt (c .args .l .now)) places.mostLoops zeroLoop
 
 mul-t6 : tie.Need-mul-t6 Inv-loop μ-loop
 mul-t6 c = search needs
@@ -66,11 +67,11 @@ loop-less c = search needs
 
 loop-again : tie.Need-loop-again Inv-loop μ-loop
 loop-again c =
-    filled-more (loopAt (c .before .before .before .before .before .args .l .now)) 32 _ zeroLoop _ (c .before .before .before .loop-test .taken)
-    (c .before .before .before .before .loop .inv)
+    let turn = c .before .before .before in
+    filled-more (loopAt (turn .before .before .args .l .now)) places.mostLoops _ zeroLoop _ (turn .loop-test .taken) (turn .before .loop .inv)
 
 returns : tie.Need-returns Inv-loop μ-loop
-returns c = filled-all (loopAt (c .before .before .args .l .now)) 32 _ zeroLoop _ (c .loop-test .left) (c .before .loop .inv)
+returns c = filled-all (loopAt (c .before .before .args .l .now)) places.mostLoops _ zeroLoop _ (c .loop-test .left) (c .before .loop .inv)
 
 pub loops-of-spec : {M : Type 1} → statement M
 loops-of-spec =

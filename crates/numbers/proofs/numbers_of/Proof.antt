@@ -36,11 +36,10 @@ put-loops-requires c κs = search needs
 
 returns : tie.Need-returns
 returns c =
-    numbered _ _ _ _ _
-    (c .before .before .before .before .before .before .before .before .before .put-functions .ensures)
-    (c .before .before .before .before .before .before .put-vertices .ensures)
-    (c .before .before .before .put-edges .ensures)
-    (c .put-loops .ensures)
+    let edges = c .before .before .before in
+    let vertices = edges .before .before .before in
+    let functions = vertices .before .before .before in
+    numbered _ _ _ _ _ (functions .put-functions .ensures) (vertices .put-vertices .ensures) (edges .put-edges .ensures) (c .put-loops .ensures)
 
 pub numbers-of-spec : {M : Type 1} → statement M
 numbers-of-spec =

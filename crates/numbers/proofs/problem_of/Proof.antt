@@ -33,11 +33,10 @@ element-copy-out-t24 c = search needs
 
 returns : tie.Need-returns
 returns c =
-    assembled _ _ _ _ _
-    (c .before .before .before .before .before .before .before .before .functions-of .ensures)
-    (c .before .before .before .before .before .before .before .vertices-of .ensures)
-    (c .before .before .before .before .before .before .edges-of .ensures)
-    (c .before .before .before .before .before .loops-of .ensures)
+    let loops = c .before .before .before .before .before in
+    let edges = loops .before in
+    let vertices = edges .before in
+    assembled _ _ _ _ _ (vertices .before .functions-of .ensures) (vertices .vertices-of .ensures) (edges .edges-of .ensures) (loops .loops-of .ensures)
 
 pub problem-of-spec : {M : Type 1} → statement M
 problem-of-spec =

@@ -7,15 +7,16 @@ use Rattle.model.specs.Numbers.{edgeNumbers}
 use Rattle.numbers.proofs.Places.{Storing, stored-none, stored-two, stored-all}
 use Rattle.numbers.proofs.put_edges.Statement.{statement}
 use Rattle.numbers.proofs.put_edges.Tie as tie
+use Rattle.model.specs.Places as places
 
 abbrev Inv-loop : tie.InvT-loop
-Inv-loop l₀ edges i₀ l i = Storing edgeNumbers 512 325 edges l₀ i l
+Inv-loop l₀ edges i₀ l i = Storing edgeNumbers places.mostEdges places.from edges l₀ i l
 
 abbrev μ-loop : tie.MeasureT-loop
-μ-loop l₀ edges i₀ l i = 512 - i
+μ-loop l₀ edges i₀ l i = places.mostEdges - i
 
 loop-holds : tie.Need-loop-holds Inv-loop μ-loop
-loop-holds c = stored-none edgeNumbers 512 325 _ _ (search needs)
+loop-holds c = stored-none edgeNumbers places.mostEdges places.from _ _ (search needs)
 
 mul-e : tie.Need-mul-e Inv-loop μ-loop
 mul-e c = search needs
@@ -55,12 +56,12 @@ loop-less c = search needs
 
 loop-again : tie.Need-loop-again Inv-loop μ-loop
 loop-again c =
-    stored-two (λ (e : Edge). e .from) (λ (e : Edge). e .to) 512 325 _ _ _ zeroEdge _
+    stored-two (λ (e : Edge). e .from) (λ (e : Edge). e .to) places.mostEdges places.from _ _ _ zeroEdge _
     (c .before .loop-test .taken)
     (c .before .before .loop .inv)
 
 returns : tie.Need-returns Inv-loop μ-loop
-returns c = stored-all edgeNumbers 512 325 _ _ _ _ (c .loop-test .left) (c .before .loop .inv)
+returns c = stored-all edgeNumbers places.mostEdges places.from _ _ _ _ (c .loop-test .left) (c .before .loop .inv)
 
 pub put-edges-spec : {M : Type 1} → statement M
 put-edges-spec =

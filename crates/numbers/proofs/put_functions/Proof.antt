@@ -7,15 +7,16 @@ use Rattle.model.specs.Numbers.{functionNumbers}
 use Rattle.numbers.proofs.Places.{Storing, stored-none, stored-two, stored-all}
 use Rattle.numbers.proofs.put_functions.Statement.{statement}
 use Rattle.numbers.proofs.put_functions.Tie as tie
+use Rattle.model.specs.Places as places
 
 abbrev Inv-loop : tie.InvT-loop
-Inv-loop l₀ functions i₀ l i = Storing functionNumbers 32 3 functions l₀ i l
+Inv-loop l₀ functions i₀ l i = Storing functionNumbers places.mostFunctions places.size functions l₀ i l
 
 abbrev μ-loop : tie.MeasureT-loop
-μ-loop l₀ functions i₀ l i = 32 - i
+μ-loop l₀ functions i₀ l i = places.mostFunctions - i
 
 loop-holds : tie.Need-loop-holds Inv-loop μ-loop
-loop-holds c = stored-none functionNumbers 32 3 _ _ (search needs)
+loop-holds c = stored-none functionNumbers places.mostFunctions places.size _ _ (search needs)
 
 mul-f : tie.Need-mul-f Inv-loop μ-loop
 mul-f c = search needs
@@ -55,12 +56,12 @@ loop-less c = search needs
 
 loop-again : tie.Need-loop-again Inv-loop μ-loop
 loop-again c =
-    stored-two (λ (f : Function). f .size .0) (λ (f : Function). f .load .0) 32 3 _ _ _ zeroFunction _
+    stored-two (λ (f : Function). f .size .0) (λ (f : Function). f .load .0) places.mostFunctions places.size _ _ _ zeroFunction _
     (c .before .loop-test .taken)
     (c .before .before .loop .inv)
 
 returns : tie.Need-returns Inv-loop μ-loop
-returns c = stored-all functionNumbers 32 3 _ _ _ _ (c .loop-test .left) (c .before .loop .inv)
+returns c = stored-all functionNumbers places.mostFunctions places.size _ _ _ _ (c .loop-test .left) (c .before .loop .inv)
 
 pub put-functions-spec : {M : Type 1} → statement M
 put-functions-spec =

@@ -7,15 +7,16 @@ use Rattle.model.specs.Numbers.{loopNumbers}
 use Rattle.numbers.proofs.Places.{Storing, stored-none, stored-three, stored-all}
 use Rattle.numbers.proofs.put_loops.Statement.{statement}
 use Rattle.numbers.proofs.put_loops.Tie as tie
+use Rattle.model.specs.Places as places
 
 abbrev Inv-loop : tie.InvT-loop
-Inv-loop l₀ loops i₀ l i = Storing loopNumbers 32 1350 loops l₀ i l
+Inv-loop l₀ loops i₀ l i = Storing loopNumbers places.mostLoops places.header loops l₀ i l
 
 abbrev μ-loop : tie.MeasureT-loop
-μ-loop l₀ loops i₀ l i = 32 - i
+μ-loop l₀ loops i₀ l i = places.mostLoops - i
 
 loop-holds : tie.Need-loop-holds Inv-loop μ-loop
-loop-holds c = stored-none loopNumbers 32 1350 _ _ (search needs)
+loop-holds c = stored-none loopNumbers places.mostLoops places.header _ _ (search needs)
 
 mul-o : tie.Need-mul-o Inv-loop μ-loop
 mul-o c = search needs
@@ -67,12 +68,12 @@ loop-less c = search needs
 
 loop-again : tie.Need-loop-again Inv-loop μ-loop
 loop-again c =
-    stored-three (λ (o : Loop). o .header) (λ (o : Loop). o .last) (λ (o : Loop). o .bound) 32 1350 _ _ _ zeroLoop _
+    stored-three (λ (o : Loop). o .header) (λ (o : Loop). o .last) (λ (o : Loop). o .bound) places.mostLoops places.header _ _ _ zeroLoop _
     (c .before .loop-test .taken)
     (c .before .before .loop .inv)
 
 returns : tie.Need-returns Inv-loop μ-loop
-returns c = stored-all loopNumbers 32 1350 _ _ _ _ (c .loop-test .left) (c .before .loop .inv)
+returns c = stored-all loopNumbers places.mostLoops places.header _ _ _ _ (c .loop-test .left) (c .before .loop .inv)
 
 pub put-loops-spec : {M : Type 1} → statement M
 put-loops-spec =

@@ -7,15 +7,16 @@ use Rattle.model.specs.Numbers.{vertexNumbers}
 use Rattle.numbers.proofs.Places.{Storing, stored-none, stored-two, stored-all}
 use Rattle.numbers.proofs.put_vertices.Statement.{statement}
 use Rattle.numbers.proofs.put_vertices.Tie as tie
+use Rattle.model.specs.Places as places
 
 abbrev Inv-loop : tie.InvT-loop
-Inv-loop l₀ vertices i₀ l i = Storing vertexNumbers 128 68 vertices l₀ i l
+Inv-loop l₀ vertices i₀ l i = Storing vertexNumbers places.mostVertices places.function vertices l₀ i l
 
 abbrev μ-loop : tie.MeasureT-loop
-μ-loop l₀ vertices i₀ l i = 128 - i
+μ-loop l₀ vertices i₀ l i = places.mostVertices - i
 
 loop-holds : tie.Need-loop-holds Inv-loop μ-loop
-loop-holds c = stored-none vertexNumbers 128 68 _ _ (search needs)
+loop-holds c = stored-none vertexNumbers places.mostVertices places.function _ _ (search needs)
 
 mul-v : tie.Need-mul-v Inv-loop μ-loop
 mul-v c = search needs
@@ -55,12 +56,12 @@ loop-less c = search needs
 
 loop-again : tie.Need-loop-again Inv-loop μ-loop
 loop-again c =
-    stored-two (λ (v : Vertex). v .function) (λ (v : Vertex). v .cost .0) 128 68 _ _ _ zeroVertex _
+    stored-two (λ (v : Vertex). v .function) (λ (v : Vertex). v .cost .0) places.mostVertices places.function _ _ _ zeroVertex _
     (c .before .loop-test .taken)
     (c .before .before .loop .inv)
 
 returns : tie.Need-returns Inv-loop μ-loop
-returns c = stored-all vertexNumbers 128 68 _ _ _ _ (c .loop-test .left) (c .before .loop .inv)
+returns c = stored-all vertexNumbers places.mostVertices places.function _ _ _ _ (c .loop-test .left) (c .before .loop .inv)
 
 pub put-vertices-spec : {M : Type 1} → statement M
 put-vertices-spec =

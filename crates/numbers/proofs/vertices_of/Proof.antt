@@ -3,18 +3,19 @@ use Prim.Native.Nat.{_-_}
 use borrow.Author.Needs.{needs}
 use Rattle.model.specs.Zero.{zeroVertex}
 use Rattle.model.specs.Numbers.{vertexAt}
-use Rattle.numbers.proofs.Filling.{Filled, filled-none, filled-more, filled-all}
+use Rattle.numbers.proofs.Filling.{FilledTo, filled-none, filled-more, filled-all}
 use Rattle.numbers.proofs.vertices_of.Statement.{statement}
 use Rattle.numbers.proofs.vertices_of.Tie as tie
+use Rattle.model.specs.Places as places
 
 abbrev Inv-loop : tie.InvT-loop
-Inv-loop l out₀ i₀ out i = Filled (vertexAt l) 128 i zeroVertex out
+Inv-loop l out₀ i₀ out i = FilledTo (vertexAt l) places.mostVertices i zeroVertex out
 
 abbrev μ-loop : tie.MeasureT-loop
-μ-loop l out₀ i₀ out i = 128 - i
+μ-loop l out₀ i₀ out i = places.mostVertices - i
 
 loop-holds : tie.Need-loop-holds Inv-loop μ-loop
-loop-holds c = filled-none (vertexAt (c .args .l .now)) 128 zeroVertex
+loop-holds c = filled-none (vertexAt (c .args .l .now)) places.mostVertices zeroVertex
 
 mul-t7 : tie.Need-mul-t7 Inv-loop μ-loop
 mul-t7 c = search needs
@@ -54,11 +55,11 @@ loop-less c = search needs
 
 loop-again : tie.Need-loop-again Inv-loop μ-loop
 loop-again c =
-    filled-more (vertexAt (c .before .before .before .before .args .l .now)) 128 _ zeroVertex _ (c .before .before .loop-test .taken)
-    (c .before .before .before .loop .inv)
+    let turn = c .before .before in
+    filled-more (vertexAt (turn .before .before .args .l .now)) places.mostVertices _ zeroVertex _ (turn .loop-test .taken) (turn .before .loop .inv)
 
 returns : tie.Need-returns Inv-loop μ-loop
-returns c = filled-all (vertexAt (c .before .before .args .l .now)) 128 _ zeroVertex _ (c .loop-test .left) (c .before .loop .inv)
+returns c = filled-all (vertexAt (c .before .before .args .l .now)) places.mostVertices _ zeroVertex _ (c .loop-test .left) (c .before .loop .inv)
 
 pub vertices-of-spec : {M : Type 1} → statement M
 vertices-of-spec =

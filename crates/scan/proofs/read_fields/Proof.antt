@@ -1,49 +1,74 @@
 -- `read_fields` reads as `readFrom` does. The invariant: what is left to read from the present field is what was to be read from the first, and the field is valid.
-use Prim.Native.Nat.{ℕ, _+_, _*_, _-_, _≤_, _<_}
+use Prim.Native.Nat.{ℕ, _+_, _*_, _-_, _<_}
+use mathlib.Core.Path.{_≡_, sym, _∙_}
 use mathlib.Core.List.{List}
-use mathlib.Core.Path.{_≡_, sym, ap, _∙_}
+use mathlib.Core.Bool.{true}
 use native.Mathlib.Omega.{arith}
-use lib.ListN.{length, length-set}
 use borrow.Author.Needs.{needs}
 use borrow.Author.Tests.{not-true, not-false}
-use Rattle.model.specs.declared.Field.{Field}
-use Rattle.model.specs.File.{numberCount, firstField, readFrom}
-use Rattle.spelling.proofs.Prefix.{number-ends}
-use Rattle.fields.specs.Valid.{edition}
-use Rattle.fields.proofs.Steps.{placed}
-use Rattle.scan.specs.Edges.{pastEdges, EdgesRead}
-use Rattle.scan.proofs.Turns.{no-value, read-refused, read-out, read-disorder, read-next, read-done, Reached, to-come, reached, nearer, later}
-use Rattle.scan.proofs.Edges.{past-row, past-place}
+use Rattle.model.specs.declared.Number.the-variants as number
+use Rattle.model.specs.Spelling.{readNumber}
+use Rattle.model.specs.File.{numberCount, inRange}
+use Rattle.fields.specs.Valid.{Placed}
+use Rattle.fields.proofs.Steps.{placed, ranged-later}
+use Rattle.scan.proofs.Going.{past-row, past-nearer}
+use Rattle.scan.proofs.Reading.{Reading, read-first, read-all, read-past, read-refused, read-too-far, read-unordered, read-next}
 use Rattle.scan.proofs.read_fields.Statement.{statement}
 use Rattle.scan.proofs.read_fields.Tie as tie
-
-record Reading (bytes numbers₀ numbers : List ℕ) (field : Field) (at start : ℕ) : Type 0 where
-  count : ℕ
-  long : length numbers ≡ numberCount
-  within : at ≤ length bytes
-  reached : Reached field count
-  same : readFrom (numberCount - count) bytes at start field numbers ≡ readFrom numberCount bytes 0 0 firstField numbers₀
-
--- Behind a run of edges the reading goes on.
-on : {bytes numbers₀ numbers : List ℕ} {c : Field} {at start : ℕ} {m : List ℕ} {k : ℕ} {d : Field} →
-    Reading bytes numbers₀ numbers c at start → c .row < 15 → EdgesRead bytes at c numbers m k → d ≡ pastEdges c k → Reading bytes numbers₀ m d (at + 2 * k) start
-on {bytes} {numbers₀} {numbers} {c} {at} {start} {m} {k} r h e q =
-    let place = placed (e .valid) h .place in
-    let left : numberCount - (r .count + 2 * k) + 2 * k ≡ numberCount - r .count = omega (arith, r .reached .behind) in
-    rw q (record {
-      count = r .count + 2 * k;
-      long = e .long;
-      within = omega (arith, e .inside, r .within);
-      reached = record { valid = e .valid; behind = omega (arith, r .reached .behind) };
-      same = sym (e .same (numberCount - (r .count + 2 * k)) start) ∙ ap (λ (n : ℕ). readFrom n bytes at start c numbers) left ∙ r .same;
-    })
+use Rattle.model.specs.Places as places
+use Rattle.model.specs.Rows as rows
 
 abbrev Inv-loop : tie.InvT-loop
-Inv-loop bytes numbers₀ table field₀ at₀ start₀ numbers field at start =
-    Reading bytes numbers₀ numbers field at start
+Inv-loop bytes numbers₀ table field₀ at₀ start₀ numbers field at start = Reading bytes numbers₀ numbers field at start
 
 abbrev μ-loop : tie.MeasureT-loop
 μ-loop bytes numbers₀ table field₀ at₀ start₀ numbers field at start = numberCount - field .place
+
+-- From a state back to one before it.
+abbrev tabled : tie.At-loop Inv-loop μ-loop → tie.After-table Inv-loop μ-loop
+tabled c = c .before .before
+
+abbrev entry : tie.At-loop Inv-loop μ-loop → tie.Start Inv-loop μ-loop
+entry c = tabled c .before .before
+
+abbrev turn : tie.After-past-edges Inv-loop μ-loop → tie.At-loop Inv-loop μ-loop
+turn c = c .before .before .before .before .before
+
+abbrev past : tie.After-number Inv-loop μ-loop → tie.After-past-edges Inv-loop μ-loop
+past c = c .before .before .before
+
+abbrev valued : tie.After-in-range Inv-loop μ-loop → tie.After-number Inv-loop μ-loop
+valued c = c .before .before .before .before
+
+abbrev started : tie.After-ascends Inv-loop μ-loop → tie.After-item-start Inv-loop μ-loop
+started c = c .before .before .before
+
+abbrev ranged : tie.After-item-start Inv-loop μ-loop → tie.Else2 Inv-loop μ-loop
+ranged c = c .before .before
+
+-- Behind a run of edges.
+module _ (c : tie.After-past-edges Inv-loop μ-loop) where
+  abbrev run : ℕ
+  run = c .before .read-edges .result
+
+  going : c .past-edges .result .row < rows.end
+  going = past-row (turn c .loop .field) run (c .past-edges .ensures) (c .before .before .before .if1 .taken)
+
+  reading : Reading (entry (turn c) .args .bytes .now) (entry (turn c) .args .numbers .now) (c .before .read-edges .last .1 .0) (c .past-edges .result)
+      (turn c .loop .at + places.edgeWidth * run) (turn c .loop .start)
+  reading = read-past (turn c .loop .inv) (c .before .before .before .if1 .taken) (c .before .read-edges .ensures) (c .past-edges .ensures)
+
+  here : Placed (c .past-edges .result)
+  here = placed (reading .reached .valid) going
+
+-- The number that was read.
+is-number : (c : tie.After-number Inv-loop μ-loop) →
+    readNumber (entry (turn (past c)) .args .bytes .now) (turn (past c) .loop .at + places.edgeWidth * run (past c)) ≡ number.Value (c .number .given .0 .0) (c .number .given .0 .1 .0)
+is-number c = sym (c .before .before .read-number .ensures) ∙ c .number .given .1
+
+-- It is in range.
+in-range : (c : tie.Else2 Inv-loop μ-loop) → inRange (past (valued (c .before)) .before .read-edges .last .1 .0) (past (valued (c .before)) .past-edges .result) (valued (c .before) .number .given .0 .0) ≡ true
+in-range c = sym (c .before .in-range .ensures) ∙ not-false _ (c .if2 .left)
 
 table-requires : tie.Need-table-requires Inv-loop μ-loop
 table-requires c κs = search needs
@@ -52,19 +77,21 @@ first-field-requires : tie.Need-first-field-requires Inv-loop μ-loop
 first-field-requires c κs = search needs
 
 loop-holds : tie.Need-loop-holds Inv-loop μ-loop
-loop-holds c = record { count = 0; long = c .before .before .before .pre; within = omega arith; reached = record { valid = rw (c .first-field .ensures) edition; behind = omega arith }; same = ap (λ (x : Field). readFrom numberCount (c .before .before .before .args .bytes .now) 0 0 x (c .before .before .before .args .numbers .now)) (c .first-field .ensures) }
+loop-holds c = read-first _ (c .before .before .before .pre) (c .first-field .ensures)
 
 read-edges-requires : tie.Need-read-edges-requires Inv-loop μ-loop
-read-edges-requires c κs = record { valid = c .before .before .before .loop .inv .reached .valid; long = c .before .before .before .loop .inv .long }
+read-edges-requires c κs =
+    let r = c .before .before .before .loop .inv in
+    record { inside = r .within; valid = r .reached .valid; long = r .long }
 
 past-edges-requires : tie.Need-past-edges-requires Inv-loop μ-loop
 past-edges-requires c κs = (c .read-edges .ensures .few, placed (c .read-edges .ensures .valid) (c .before .before .if1 .taken) .place)
 
 mul-at : tie.Need-mul-at Inv-loop μ-loop
-mul-at c = omega (arith, placed (c .before .read-edges .ensures .valid) (c .before .before .before .if1 .taken) .place)
+mul-at c = omega (arith, c .before .read-edges .ensures .inside)
 
 add-at : tie.Need-add-at Inv-loop μ-loop
-add-at c = omega (arith, c .before .read-edges .ensures .inside, c .before .before .before .before .before .loop .inv .within)
+add-at c = omega (arith, c .before .read-edges .ensures .inside)
 
 read-number-requires : tie.Need-read-number-requires Inv-loop μ-loop
 read-number-requires c κs = search needs
@@ -76,46 +103,65 @@ misread-at-requires : tie.Need-misread-at-requires Inv-loop μ-loop
 misread-at-requires c κs = search needs
 
 returns : tie.Need-returns Inv-loop μ-loop
-returns c = read-refused _ _ _ _ _ _ _ _ (to-come ((on (c .before .before .before .before .before .before .before .before .loop .inv) (c .before .before .before .before .before .before .if1 .taken) (c .before .before .before .before .read-edges .ensures) (c .before .before .before .past-edges .ensures)) .reached) (past-row (c .before .before .before .before .before .before .before .before .loop .field) (c .before .before .before .before .read-edges .result) (c .before .before .before .past-edges .ensures) (c .before .before .before .before .before .before .if1 .taken))) ((on (c .before .before .before .before .before .before .before .before .loop .inv) (c .before .before .before .before .before .before .if1 .taken) (c .before .before .before .before .read-edges .ensures) (c .before .before .before .past-edges .ensures)) .same) (past-row (c .before .before .before .before .before .before .before .before .loop .field) (c .before .before .before .before .read-edges .result) (c .before .before .before .past-edges .ensures) (c .before .before .before .before .before .before .if1 .taken)) _ (c .before .before .read-number .ensures) (no-value _ (c .before .match .keys2)) _ (c .misread-at .ensures)
+returns c =
+    let at = c .before .before .before in
+    read-refused (reading at) (going at) _ (c .before .before .read-number .ensures) (c .before .match .keys2) (c .misread-at .ensures)
 
 in-range-requires : tie.Need-in-range-requires Inv-loop μ-loop
-in-range-requires c κs = (c .before .before .before .before .before .before .before .before .before .before .before .before .before .table .ensures, placed ((on (c .before .before .before .before .before .before .before .before .before .before .before .loop .inv) (c .before .before .before .before .before .before .before .before .before .if1 .taken) (c .before .before .before .before .before .before .before .read-edges .ensures) (c .before .before .before .before .before .before .past-edges .ensures)) .reached .valid) (past-row (c .before .before .before .before .before .before .before .before .before .before .before .loop .field) (c .before .before .before .before .before .before .before .read-edges .result) (c .before .before .before .before .before .before .past-edges .ensures) (c .before .before .before .before .before .before .before .before .before .if1 .taken)))
+in-range-requires c κs =
+    let at = past (c .before .before .before) in
+    (tabled (turn at) .table .ensures, here at)
 
 returns-2 : tie.Need-returns-2 Inv-loop μ-loop
-returns-2 c = read-out _ _ _ _ _ _ _ _ (to-come ((on (c .before .before .before .before .before .before .before .before .before .before .before .before .before .loop .inv) (c .before .before .before .before .before .before .before .before .before .before .before .if1 .taken) (c .before .before .before .before .before .before .before .before .before .read-edges .ensures) (c .before .before .before .before .before .before .before .before .past-edges .ensures)) .reached) (past-row (c .before .before .before .before .before .before .before .before .before .before .before .before .before .loop .field) (c .before .before .before .before .before .before .before .before .before .read-edges .result) (c .before .before .before .before .before .before .before .before .past-edges .ensures) (c .before .before .before .before .before .before .before .before .before .before .before .if1 .taken))) ((on (c .before .before .before .before .before .before .before .before .before .before .before .before .before .loop .inv) (c .before .before .before .before .before .before .before .before .before .before .before .if1 .taken) (c .before .before .before .before .before .before .before .before .before .read-edges .ensures) (c .before .before .before .before .before .before .before .before .past-edges .ensures)) .same) (past-row (c .before .before .before .before .before .before .before .before .before .before .before .before .before .loop .field) (c .before .before .before .before .before .before .before .before .before .read-edges .result) (c .before .before .before .before .before .before .before .before .past-edges .ensures) (c .before .before .before .before .before .before .before .before .before .before .before .if1 .taken)) _ (c .before .before .before .before .before .before .before .read-number .ensures) _ _ (c .before .before .before .before .before .number .given .1) _ (c .before .in-range .ensures) (not-true _ (c .if2 .taken))
+returns-2 c =
+    let at = past (valued (c .before)) in
+    read-too-far (reading at) (going at) (is-number (valued (c .before))) (sym (c .before .in-range .ensures) ∙ not-true _ (c .if2 .taken))
 
 mul-numbers : tie.Need-mul-numbers Inv-loop μ-loop
-mul-numbers c = omega (arith, placed ((on (c .before .before .before .before .before .before .before .before .before .before .before .before .before .loop .inv) (c .before .before .before .before .before .before .before .before .before .before .before .if1 .taken) (c .before .before .before .before .before .before .before .before .before .read-edges .ensures) (c .before .before .before .before .before .before .before .before .past-edges .ensures)) .reached .valid) (past-row (c .before .before .before .before .before .before .before .before .before .before .before .before .before .loop .field) (c .before .before .before .before .before .before .before .before .before .read-edges .result) (c .before .before .before .before .before .before .before .before .past-edges .ensures) (c .before .before .before .before .before .before .before .before .before .before .before .if1 .taken)) .place)
+mul-numbers c = omega (arith, here (past (valued (c .before))) .place)
 
 element-write-numbers : tie.Need-element-write-numbers Inv-loop μ-loop
-element-write-numbers c = placed ((on (c .before .before .before .before .before .before .before .before .before .before .before .before .before .loop .inv) (c .before .before .before .before .before .before .before .before .before .before .before .if1 .taken) (c .before .before .before .before .before .before .before .before .before .read-edges .ensures) (c .before .before .before .before .before .before .before .before .past-edges .ensures)) .reached .valid) (past-row (c .before .before .before .before .before .before .before .before .before .before .before .before .before .loop .field) (c .before .before .before .before .before .before .before .before .before .read-edges .result) (c .before .before .before .before .before .before .before .before .past-edges .ensures) (c .before .before .before .before .before .before .before .before .before .before .before .if1 .taken)) .place
+element-write-numbers c = here (past (valued (c .before))) .place
 
 item-start-requires : tie.Need-item-start-requires Inv-loop μ-loop
-item-start-requires c κs = (c .before .before .before .before .before .before .before .before .before .before .before .before .before .before .before .before .table .ensures, placed ((on (c .before .before .before .before .before .before .before .before .before .before .before .before .before .before .loop .inv) (c .before .before .before .before .before .before .before .before .before .before .before .before .if1 .taken) (c .before .before .before .before .before .before .before .before .before .before .read-edges .ensures) (c .before .before .before .before .before .before .before .before .before .past-edges .ensures)) .reached .valid) (past-row (c .before .before .before .before .before .before .before .before .before .before .before .before .before .before .loop .field) (c .before .before .before .before .before .before .before .before .before .before .read-edges .result) (c .before .before .before .before .before .before .before .before .before .past-edges .ensures) (c .before .before .before .before .before .before .before .before .before .before .before .before .if1 .taken)) .row)
+item-start-requires c κs =
+    let at = past (valued (c .before .before)) in
+    (tabled (turn at) .table .ensures, going at)
 
 ascends-requires : tie.Need-ascends-requires Inv-loop μ-loop
-ascends-requires c κs = (c .before .before .before .before .before .before .before .before .before .before .before .before .before .before .before .before .before .before .before .table .ensures, placed ((on (c .before .before .before .before .before .before .before .before .before .before .before .before .before .before .before .before .before .loop .inv) (c .before .before .before .before .before .before .before .before .before .before .before .before .before .before .before .if1 .taken) (c .before .before .before .before .before .before .before .before .before .before .before .before .before .read-edges .ensures) (c .before .before .before .before .before .before .before .before .before .before .before .before .past-edges .ensures)) .reached .valid) (past-row (c .before .before .before .before .before .before .before .before .before .before .before .before .before .before .before .before .before .loop .field) (c .before .before .before .before .before .before .before .before .before .before .before .before .before .read-edges .result) (c .before .before .before .before .before .before .before .before .before .before .before .before .past-edges .ensures) (c .before .before .before .before .before .before .before .before .before .before .before .before .before .before .before .if1 .taken)))
+ascends-requires c κs =
+    let at = past (valued (ranged (c .before .before) .before)) in
+    (tabled (turn at) .table .ensures, here at)
 
 returns-3 : tie.Need-returns-3 Inv-loop μ-loop
-returns-3 c = read-disorder _ _ _ _ _ _ _ _ (to-come ((on (c .before .before .before .before .before .before .before .before .before .before .before .before .before .before .before .before .before .before .before .loop .inv) (c .before .before .before .before .before .before .before .before .before .before .before .before .before .before .before .before .before .if1 .taken) (c .before .before .before .before .before .before .before .before .before .before .before .before .before .before .before .read-edges .ensures) (c .before .before .before .before .before .before .before .before .before .before .before .before .before .before .past-edges .ensures)) .reached) (past-row (c .before .before .before .before .before .before .before .before .before .before .before .before .before .before .before .before .before .before .before .loop .field) (c .before .before .before .before .before .before .before .before .before .before .before .before .before .before .before .read-edges .result) (c .before .before .before .before .before .before .before .before .before .before .before .before .before .before .past-edges .ensures) (c .before .before .before .before .before .before .before .before .before .before .before .before .before .before .before .before .before .if1 .taken))) ((on (c .before .before .before .before .before .before .before .before .before .before .before .before .before .before .before .before .before .before .before .loop .inv) (c .before .before .before .before .before .before .before .before .before .before .before .before .before .before .before .before .before .if1 .taken) (c .before .before .before .before .before .before .before .before .before .before .before .before .before .before .before .read-edges .ensures) (c .before .before .before .before .before .before .before .before .before .before .before .before .before .before .past-edges .ensures)) .same) (past-row (c .before .before .before .before .before .before .before .before .before .before .before .before .before .before .before .before .before .before .before .loop .field) (c .before .before .before .before .before .before .before .before .before .before .before .before .before .before .before .read-edges .result) (c .before .before .before .before .before .before .before .before .before .before .before .before .before .before .past-edges .ensures) (c .before .before .before .before .before .before .before .before .before .before .before .before .before .before .before .before .before .if1 .taken)) _ (c .before .before .before .before .before .before .before .before .before .before .before .before .before .read-number .ensures) _ _ (c .before .before .before .before .before .before .before .before .before .before .before .number .given .1) _ (c .before .before .before .before .before .before .before .in-range .ensures) (not-false _ (c .before .before .before .before .before .before .if2 .left)) _ (c .before .before .before .before .item-start .ensures) _ (c .before .ascends .ensures) (not-true _ (c .if3 .taken))
+returns-3 c =
+    let good = ranged (started (c .before)) in
+    let at = past (valued (good .before)) in
+    read-unordered (reading at) (going at) (is-number (valued (good .before))) (in-range good) (started (c .before) .item-start .ensures)
+    (sym (c .before .ascends .ensures) ∙ not-true _ (c .if3 .taken))
 
 next-field-requires : tie.Need-next-field-requires Inv-loop μ-loop
-next-field-requires c κs = (c .before .before .before .before .before .before .before .before .before .before .before .before .before .before .before .before .before .before .before .before .before .before .table .ensures, placed ((on (c .before .before .before .before .before .before .before .before .before .before .before .before .before .before .before .before .before .before .before .before .loop .inv) (c .before .before .before .before .before .before .before .before .before .before .before .before .before .before .before .before .before .before .if1 .taken) (c .before .before .before .before .before .before .before .before .before .before .before .before .before .before .before .before .read-edges .ensures) (c .before .before .before .before .before .before .before .before .before .before .before .before .before .before .before .past-edges .ensures)) .reached .valid) (past-row (c .before .before .before .before .before .before .before .before .before .before .before .before .before .before .before .before .before .before .before .before .loop .field) (c .before .before .before .before .before .before .before .before .before .before .before .before .before .before .before .before .read-edges .result) (c .before .before .before .before .before .before .before .before .before .before .before .before .before .before .before .past-edges .ensures) (c .before .before .before .before .before .before .before .before .before .before .before .before .before .before .before .before .before .before .if1 .taken)))
+next-field-requires c κs =
+    let at = past (valued (ranged (started (c .before .before)) .before)) in
+    (tabled (turn at) .table .ensures, here at)
 
 loop-less : tie.Need-loop-less Inv-loop μ-loop
-loop-less c = omega (arith, past-place (c .before .before .before .before .before .before .before .before .before .before .before .before .before .before .before .before .before .before .before .before .before .loop .field) (c .before .before .before .before .before .before .before .before .before .before .before .before .before .before .before .before .before .read-edges .result) (c .before .before .before .before .before .before .before .before .before .before .before .before .before .before .before .before .past-edges .ensures), nearer ((on (c .before .before .before .before .before .before .before .before .before .before .before .before .before .before .before .before .before .before .before .before .before .loop .inv) (c .before .before .before .before .before .before .before .before .before .before .before .before .before .before .before .before .before .before .before .if1 .taken) (c .before .before .before .before .before .before .before .before .before .before .before .before .before .before .before .before .before .read-edges .ensures) (c .before .before .before .before .before .before .before .before .before .before .before .before .before .before .before .before .past-edges .ensures)) .reached) (past-row (c .before .before .before .before .before .before .before .before .before .before .before .before .before .before .before .before .before .before .before .before .before .loop .field) (c .before .before .before .before .before .before .before .before .before .before .before .before .before .before .before .before .before .read-edges .result) (c .before .before .before .before .before .before .before .before .before .before .before .before .before .before .before .before .past-edges .ensures) (c .before .before .before .before .before .before .before .before .before .before .before .before .before .before .before .before .before .before .before .if1 .taken)) (later ((on (c .before .before .before .before .before .before .before .before .before .before .before .before .before .before .before .before .before .before .before .before .before .loop .inv) (c .before .before .before .before .before .before .before .before .before .before .before .before .before .before .before .before .before .before .before .if1 .taken) (c .before .before .before .before .before .before .before .before .before .before .before .before .before .before .before .before .before .read-edges .ensures) (c .before .before .before .before .before .before .before .before .before .before .before .before .before .before .before .before .past-edges .ensures)) .reached .valid) (past-row (c .before .before .before .before .before .before .before .before .before .before .before .before .before .before .before .before .before .before .before .before .before .loop .field) (c .before .before .before .before .before .before .before .before .before .before .before .before .before .before .before .before .before .read-edges .result) (c .before .before .before .before .before .before .before .before .before .before .before .before .before .before .before .before .past-edges .ensures) (c .before .before .before .before .before .before .before .before .before .before .before .before .before .before .before .before .before .before .before .if1 .taken)) _ _ _ (c .before .before .before .before .before .before .before .before .before .in-range .ensures) (not-false _ (c .before .before .before .before .before .before .before .before .if2 .left)) (c .next-field .ensures)))
+loop-less c =
+    let good = ranged (started (c .before .before .before)) in
+    let at = past (valued (good .before)) in
+    let valid = reading at .reached .valid in
+    past-nearer (turn at .loop .field) (run at) (at .past-edges .ensures) valid (going at) (ranged-later valid (going at) _ _ (in-range good) (c .next-field .ensures))
 
 loop-again : tie.Need-loop-again Inv-loop μ-loop
-loop-again c = record {
-  count = (on (c .before .before .before .before .before .before .before .before .before .before .before .before .before .before .before .before .before .before .before .before .before .loop .inv) (c .before .before .before .before .before .before .before .before .before .before .before .before .before .before .before .before .before .before .before .if1 .taken) (c .before .before .before .before .before .before .before .before .before .before .before .before .before .before .before .before .before .read-edges .ensures) (c .before .before .before .before .before .before .before .before .before .before .before .before .before .before .before .before .past-edges .ensures)) .count + 1;
-  reached = reached ((on (c .before .before .before .before .before .before .before .before .before .before .before .before .before .before .before .before .before .before .before .before .before .loop .inv) (c .before .before .before .before .before .before .before .before .before .before .before .before .before .before .before .before .before .before .before .if1 .taken) (c .before .before .before .before .before .before .before .before .before .before .before .before .before .before .before .before .before .read-edges .ensures) (c .before .before .before .before .before .before .before .before .before .before .before .before .before .before .before .before .past-edges .ensures)) .reached) (past-row (c .before .before .before .before .before .before .before .before .before .before .before .before .before .before .before .before .before .before .before .before .before .loop .field) (c .before .before .before .before .before .before .before .before .before .before .before .before .before .before .before .before .before .read-edges .result) (c .before .before .before .before .before .before .before .before .before .before .before .before .before .before .before .before .past-edges .ensures) (c .before .before .before .before .before .before .before .before .before .before .before .before .before .before .before .before .before .before .before .if1 .taken)) (later ((on (c .before .before .before .before .before .before .before .before .before .before .before .before .before .before .before .before .before .before .before .before .before .loop .inv) (c .before .before .before .before .before .before .before .before .before .before .before .before .before .before .before .before .before .before .before .if1 .taken) (c .before .before .before .before .before .before .before .before .before .before .before .before .before .before .before .before .before .read-edges .ensures) (c .before .before .before .before .before .before .before .before .before .before .before .before .before .before .before .before .past-edges .ensures)) .reached .valid) (past-row (c .before .before .before .before .before .before .before .before .before .before .before .before .before .before .before .before .before .before .before .before .before .loop .field) (c .before .before .before .before .before .before .before .before .before .before .before .before .before .before .before .before .before .read-edges .result) (c .before .before .before .before .before .before .before .before .before .before .before .before .before .before .before .before .past-edges .ensures) (c .before .before .before .before .before .before .before .before .before .before .before .before .before .before .before .before .before .before .before .if1 .taken)) _ _ _ (c .before .before .before .before .before .before .before .before .before .in-range .ensures) (not-false _ (c .before .before .before .before .before .before .before .before .if2 .left)) (c .next-field .ensures));
-  long = simp length-set ((on (c .before .before .before .before .before .before .before .before .before .before .before .before .before .before .before .before .before .before .before .before .before .loop .inv) (c .before .before .before .before .before .before .before .before .before .before .before .before .before .before .before .before .before .before .before .if1 .taken) (c .before .before .before .before .before .before .before .before .before .before .before .before .before .before .before .before .before .read-edges .ensures) (c .before .before .before .before .before .before .before .before .before .before .before .before .before .before .before .before .past-edges .ensures)) .long);
-  within = number-ends _ _ _ _ (sym (c .before .before .before .before .before .before .before .before .before .before .before .before .before .before .before .read-number .ensures) ∙ c .before .before .before .before .before .before .before .before .before .before .before .before .before .number .given .1) .2;
-  same = read-next _ _ _ _ _ _ _ _ (to-come ((on (c .before .before .before .before .before .before .before .before .before .before .before .before .before .before .before .before .before .before .before .before .before .loop .inv) (c .before .before .before .before .before .before .before .before .before .before .before .before .before .before .before .before .before .before .before .if1 .taken) (c .before .before .before .before .before .before .before .before .before .before .before .before .before .before .before .before .before .read-edges .ensures) (c .before .before .before .before .before .before .before .before .before .before .before .before .before .before .before .before .past-edges .ensures)) .reached) (past-row (c .before .before .before .before .before .before .before .before .before .before .before .before .before .before .before .before .before .before .before .before .before .loop .field) (c .before .before .before .before .before .before .before .before .before .before .before .before .before .before .before .before .before .read-edges .result) (c .before .before .before .before .before .before .before .before .before .before .before .before .before .before .before .before .past-edges .ensures) (c .before .before .before .before .before .before .before .before .before .before .before .before .before .before .before .before .before .before .before .if1 .taken))) ((on (c .before .before .before .before .before .before .before .before .before .before .before .before .before .before .before .before .before .before .before .before .before .loop .inv) (c .before .before .before .before .before .before .before .before .before .before .before .before .before .before .before .before .before .before .before .if1 .taken) (c .before .before .before .before .before .before .before .before .before .before .before .before .before .before .before .before .before .read-edges .ensures) (c .before .before .before .before .before .before .before .before .before .before .before .before .before .before .before .before .past-edges .ensures)) .same) (past-row (c .before .before .before .before .before .before .before .before .before .before .before .before .before .before .before .before .before .before .before .before .before .loop .field) (c .before .before .before .before .before .before .before .before .before .before .before .before .before .before .before .before .before .read-edges .result) (c .before .before .before .before .before .before .before .before .before .before .before .before .before .before .before .before .past-edges .ensures) (c .before .before .before .before .before .before .before .before .before .before .before .before .before .before .before .before .before .before .before .if1 .taken)) _ (c .before .before .before .before .before .before .before .before .before .before .before .before .before .before .before .read-number .ensures) _ _ (c .before .before .before .before .before .before .before .before .before .before .before .before .before .number .given .1) _ (c .before .before .before .before .before .before .before .before .before .in-range .ensures) (not-false _ (c .before .before .before .before .before .before .before .before .if2 .left)) _ (c .before .before .before .before .before .before .item-start .ensures) _ (c .before .before .before .ascends .ensures) _ (c .next-field .ensures) (not-false _ (c .before .before .if3 .left));
-}
+loop-again c =
+    let ascended = c .before .before in
+    let good = ranged (started (ascended .before)) in
+    let at = past (valued (good .before)) in
+    read-next (reading at) (going at) (is-number (valued (good .before))) (in-range good) (started (ascended .before) .item-start .ensures)
+    (sym (ascended .before .ascends .ensures) ∙ not-false _ (ascended .if3 .left)) (c .next-field .ensures)
 
 returns-4 : tie.Need-returns-4 Inv-loop μ-loop
-returns-4 c = read-done _ _ _ _ _ _ _ (c .before .before .loop .inv .same) (c .if1 .left)
+returns-4 c = read-all (c .before .before .loop .inv) (c .if1 .left)
 
 pub read-fields-spec : {M : Type 1} → statement M
 read-fields-spec =

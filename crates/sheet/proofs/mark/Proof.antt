@@ -24,7 +24,7 @@ slice-aggregate-read : tie.Need-slice-aggregate-read
 slice-aggregate-read c = search needs
 
 read-requires : tie.Need-read-requires
-read-requires c κs = filled-front (omega arith) (c .before .before .before .before .before .from-input .ensures) (c .before .before .filled .given .1)
+read-requires c κs = (filled-front (omega arith) (c .before .before .before .before .before .before .from-input .ensures) (c .before .before .before .filled .given .1), search needs)
 
 enum-known-verdict : tie.Need-enum-known-verdict
 enum-known-verdict c = search needs
@@ -34,6 +34,9 @@ refused-requires c κs = search needs
 
 enum-told-2 : tie.Need-enum-told-2
 enum-told-2 c = search needs
+
+problem-of-requires : tie.Need-problem-of-requires
+problem-of-requires c κs = search needs
 
 mark-layout-requires : tie.Need-mark-layout-requires
 mark-layout-requires c κs = search needs
@@ -58,6 +61,7 @@ mark-spec =
     enum-known-verdict
     refused-requires
     enum-told-2
+    problem-of-requires
     mark-layout-requires
     returns-2
     returns-3)

@@ -6,7 +6,7 @@ use denote.Ref.{now}
 use borrow.Author.Needs.{needs}
 use borrow.Author.Tests.{not-true, not-false}
 use Rattle.model.specs.Numbers.{problemOf}
-use Rattle.lookup.proofs.Places.{few-vertices}
+use Rattle.lookup.proofs.Places.{facts, few-vertices}
 use Rattle.walk.proofs.Entries.{Judging, Stepping, begin, latest-few, stepping, bad, arriving, past, good, ends-well, ends-early}
 use Rattle.walk.proofs.judge.Statement.{statement}
 use Rattle.walk.proofs.judge.Tie as tie
@@ -16,6 +16,47 @@ Inv-loop l walk steps bounds vertices counts₀ u₀ i₀ counts u i = Judging (
 
 abbrev μ-loop : tie.MeasureT-loop
 μ-loop l walk steps bounds vertices counts₀ u₀ i₀ counts u i = length walk - i
+
+-- The tables are made, and the walk is gone through.
+abbrev entry : tie.At-loop Inv-loop μ-loop → tie.Start Inv-loop μ-loop
+entry c = c .before .before .before .before .before
+
+abbrev vertices : tie.At-loop Inv-loop μ-loop → tie.After-vertex-count Inv-loop μ-loop
+vertices c = c .before
+
+abbrev bounds : tie.At-loop Inv-loop μ-loop → tie.After-bound-table Inv-loop μ-loop
+bounds c = c .before .before
+
+abbrev steps : tie.At-loop Inv-loop μ-loop → tie.After-step-table Inv-loop μ-loop
+steps c = c .before .before .before
+
+-- The step to entry i is looked up.
+abbrev Stepped : Type 0
+Stepped = tie.After-step-to Inv-loop μ-loop
+
+abbrev inside : Stepped → tie.In-loop Inv-loop μ-loop
+inside c = c .before .before .before
+
+abbrev turn : Stepped → tie.At-loop Inv-loop μ-loop
+turn c = inside c .before
+
+taken : (c : Stepped) →
+    let t = turn c in
+    let a = entry t .args in
+    Stepping (problemOf (now (a .l))) (now (a .walk)) (t .loop .i) (t .loop .u) (t .loop .counts) (c .step-to .result)
+taken c =
+    let t = turn c in
+    stepping _ (entry t .pre) _ _ _ _ (t .loop .inv) (inside c .loop-test .taken) _ (steps t .step-table .ensures) _ (vertices t .vertex-count .ensures) _ (c .step-to .ensures)
+
+-- There is a step, and the arrival is counted.
+abbrev Counted : Type 0
+Counted = tie.After-count-arrival Inv-loop μ-loop
+
+abbrev some : Counted → tie.Else1 Inv-loop μ-loop
+some c = c .before .before .before
+
+abbrev stepped : Counted → Stepped
+stepped c = some c .before
 
 step-table-requires : tie.Need-step-table-requires Inv-loop μ-loop
 step-table-requires c κs = c .before .pre
@@ -39,22 +80,21 @@ cast-v : tie.Need-cast-v Inv-loop μ-loop
 cast-v c = omega (arith, c .shared-slice-known2 .given (c .before .before .loop .i))
 
 step-to-requires : tie.Need-step-to-requires Inv-loop μ-loop
-step-to-requires c κs = (omega (arith, few-vertices _ (c .before .before .before .before .before .before .before .before .pre)), latest-few _ (c .before .before .before .before .before .before .before .before .pre) _ _ _ _ (c .before .before .before .loop .inv))
-
-taken : (c : tie.After-step-to Inv-loop μ-loop) →
-    Stepping (problemOf (now (c .before .before .before .before .before .before .before .before .before .args .l))) (now (c .before .before .before .before .before .before .before .before .before .args .walk)) (c .before .before .before .before .loop .i) (c .before .before .before .before .loop .u) (c .before .before .before .before .loop .counts) (c .step-to .result)
-taken c =
-    stepping _ (c .before .before .before .before .before .before .before .before .before .pre) _ _ _ _ (c .before .before .before .before .loop .inv) (c .before .before .before .loop-test .taken) _ (c .before .before .before .before .before .before .before .step-table .ensures) _ (c .before .before .before .before .before .vertex-count .ensures) _ (c .step-to .ensures)
+step-to-requires c κs =
+    let t = c .before .before .before in
+    (omega (arith, few-vertices _ (facts _ (entry t .pre))), latest-few _ (entry t .pre) _ _ _ _ (t .loop .inv))
 
 returns : tie.Need-returns Inv-loop μ-loop
-returns c = bad _ (c .before .before .before .before .before .before .before .before .before .before .pre) _ _ _ _ _ (taken (c .before)) (c .if1 .taken)
+returns c = bad _ (entry (turn (c .before)) .pre) _ _ _ _ _ (taken (c .before)) (c .if1 .taken)
 
 count-arrival-requires : tie.Need-count-arrival-requires Inv-loop μ-loop
-count-arrival-requires c κs = arriving _ (c .before .before .before .before .before .before .before .before .before .before .before .before .pre) _ _ _ _ _ (taken (c .before .before .before)) (c .before .before .if1 .left)
+count-arrival-requires c κs = let e = c .before .before in arriving _ (entry (turn (e .before)) .pre) _ _ _ _ _ (taken (e .before)) (e .if1 .left)
 
 returns-2 : tie.Need-returns-2 Inv-loop μ-loop
 returns-2 c =
-    past _ (c .before .before .before .before .before .before .before .before .before .before .before .before .before .before .pre) _ _ _ _ _ (taken (c .before .before .before .before .before)) (c .before .before .before .before .if1 .left) _ (c .before .before .before .before .before .before .before .before .before .before .before .bound-table .ensures) _ _ (c .before .count-arrival .ensures) (not-true _ (c .if2 .taken))
+    let k = c .before in
+    let t = turn (stepped k) in
+    past _ (entry t .pre) _ _ _ _ _ (taken (stepped k)) (some k .if1 .left) _ (bounds t .bound-table .ensures) _ _ (k .count-arrival .ensures) (not-true _ (c .if2 .taken))
 
 add-i : tie.Need-add-i Inv-loop μ-loop
 add-i c = search needs
@@ -64,16 +104,18 @@ loop-less c = search needs
 
 loop-again : tie.Need-loop-again Inv-loop μ-loop
 loop-again c =
-    good _ (c .before .before .before .before .before .before .before .before .before .before .before .before .before .before .pre) _ _ _ _ _ (taken (c .before .before .before .before .before)) (c .before .before .before .before .if1 .left) _ (c .before .before .before .before .before .before .before .before .before .before .before .bound-table .ensures) _ _ (c .before .count-arrival .ensures) (not-false _ (c .if2 .left))
+    let k = c .before in
+    let t = turn (stepped k) in
+    good _ (entry t .pre) _ _ _ _ _ (taken (stepped k)) (some k .if1 .left) _ (bounds t .bound-table .ensures) _ _ (k .count-arrival .ensures) (not-false _ (c .if2 .left))
 
 add-if3 : tie.Need-add-if3 Inv-loop μ-loop
-add-if3 c = omega (arith, latest-few _ (c .before .before .before .before .before .before .pre) _ _ _ _ (c .before .loop .inv))
+add-if3 c = omega (arith, latest-few _ (entry (c .before) .pre) _ _ _ _ (c .before .loop .inv))
 
 returns-3 : tie.Need-returns-3 Inv-loop μ-loop
-returns-3 c = ends-well _ (c .before .before .before .before .before .before .before .pre) _ _ _ _ (c .before .before .loop .inv) (c .before .loop-test .left) (omega arith)
+returns-3 c = let t = c .before .before in ends-well _ (entry t .pre) _ _ _ _ (t .loop .inv) (c .before .loop-test .left) (omega arith)
 
 returns-4 : tie.Need-returns-4 Inv-loop μ-loop
-returns-4 c = ends-early _ (c .before .before .before .before .before .before .before .pre) _ _ _ _ (c .before .before .loop .inv) (c .before .loop-test .left) (λ e. c .if3 .left (omega arith))
+returns-4 c = let t = c .before .before in ends-early _ (entry t .pre) _ _ _ _ (t .loop .inv) (c .before .loop-test .left) (λ e. c .if3 .left (omega arith))
 
 pub judge-spec : {M : Type 1} → statement M
 judge-spec =

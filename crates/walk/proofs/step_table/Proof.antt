@@ -5,38 +5,50 @@ use lib.ListN.{length}
 use borrow.Author.Needs.{needs}
 use Rattle.model.specs.Numbers.{problemOf}
 use Rattle.model.specs.Graph.{edgesOf}
-use Rattle.file.proofs.Counts.{counted}
-use Rattle.walk.proofs.Steps.{Marked, start-marked, mark-inside, edge-marked, all-marked}
+use Rattle.lookup.proofs.Places.{facts}
+use Rattle.walk.specs.Judging.{startRow}
+use Rattle.walk.proofs.Steps.{StepsMarked, start-marked, mark-inside, edge-marked, all-marked}
 use Rattle.walk.proofs.step_table.Statement.{statement}
 use Rattle.walk.proofs.step_table.Tie as tie
+use Rattle.model.specs.Places as places
 
 abbrev Inv-loop : tie.InvT-loop
-Inv-loop l table₀ count i₀ table i = (i ≤ length (edgesOf (problemOf l))) × Marked (problemOf l) i table
+Inv-loop l table₀ count i₀ table i = (i ≤ length (edgesOf (problemOf l))) × StepsMarked (problemOf l) i table
 
 abbrev μ-loop : tie.MeasureT-loop
 μ-loop l table₀ count i₀ table i = count - i
+
+-- The turn has the step along edge i.
+abbrev Made : Type 0
+Made = tie.After-step-along Inv-loop μ-loop
+
+abbrev turn : Made → tie.At-loop Inv-loop μ-loop
+turn c = c .before .before .before .before
+
+abbrev entry : Made → tie.Start Inv-loop μ-loop
+entry c = turn c .before .before
+
+inside : (c : Made) → places.mostVertices * c .before .before .edge-from .result + c .before .edge-to .result < startRow
+inside c =
+    mark-inside _ (entry c .pre) (turn c .loop .i) _ _ _ (omega arith) (c .before .before .edge-from .ensures) (c .before .edge-to .ensures) (c .step-along .ensures)
 
 array-write-table : tie.Need-array-write-table Inv-loop μ-loop
 array-write-table c = search needs
 
 edge-count-requires : tie.Need-edge-count-requires Inv-loop μ-loop
-edge-count-requires c κs = counted _ _ (c .pre .fields)
+edge-count-requires c κs = facts _ (c .pre)
 
 loop-holds : tie.Need-loop-holds Inv-loop μ-loop
 loop-holds c = (search needs, start-marked _)
 
 edge-from-requires : tie.Need-edge-from-requires Inv-loop μ-loop
-edge-from-requires c κs = (counted _ _ (c .before .before .before .pre .fields), search needs)
+edge-from-requires c κs = (facts _ (c .before .before .before .pre), search needs)
 
 edge-to-requires : tie.Need-edge-to-requires Inv-loop μ-loop
-edge-to-requires c κs = (counted _ _ (c .before .before .before .before .pre .fields), search needs)
+edge-to-requires c κs = (facts _ (c .before .before .before .before .pre), search needs)
 
 step-along-requires : tie.Need-step-along-requires Inv-loop μ-loop
 step-along-requires c κs = search needs
-
-inside : (c : tie.After-step-along Inv-loop μ-loop) → 128 * c .before .before .edge-from .result + c .before .edge-to .result < 16384
-inside c =
-    mark-inside _ (c .before .before .before .before .before .before .pre) (c .before .before .before .before .loop .i) _ _ _ (omega arith) (c .before .before .edge-from .ensures) (c .before .edge-to .ensures) (c .step-along .ensures)
 
 mul-table : tie.Need-mul-table Inv-loop μ-loop
 mul-table c = omega (arith, inside c)
@@ -54,8 +66,10 @@ loop-less : tie.Need-loop-less Inv-loop μ-loop
 loop-less c = search needs
 
 loop-again : tie.Need-loop-again Inv-loop μ-loop
-loop-again c =
-    (search needs, edge-marked _ (c .before .before .before .before .before .before .pre) (c .before .before .before .before .loop .i) _ _ _ (omega arith) (c .before .before .edge-from .ensures) (c .before .edge-to .ensures) (c .step-along .ensures) _ (c .before .before .before .before .loop .inv .1))
+loop-again c = (
+  search needs,
+  edge-marked _ (entry c .pre) (turn c .loop .i) _ _ _ (omega arith) (c .before .before .edge-from .ensures) (c .before .edge-to .ensures) (c .step-along .ensures) _ (turn c .loop .inv .1),
+)
 
 returns : tie.Need-returns Inv-loop μ-loop
 returns c =

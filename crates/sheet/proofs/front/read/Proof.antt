@@ -6,14 +6,14 @@ use borrow.Author.Needs.{needs}
 use Rattle.sheet.proofs.front.read.Statement.{statement}
 use Rattle.sheet.proofs.front.read.Tie as tie
 
-slice-aggregate-read : tie.Need-slice-aggregate-read
-slice-aggregate-read c = sym (length-take-le _ _ (c .before .before .pre .filled))
+slice-aggregate-read-numbers : tie.Need-slice-aggregate-read-numbers
+slice-aggregate-read-numbers c = sym (length-take-le _ _ (c .before .before .pre .0 .filled))
 
-read-requires : tie.Need-read-requires
-read-requires c κs = search needs
+read-numbers-requires : tie.Need-read-numbers-requires
+read-numbers-requires c κs = c .before .before .before .pre .1
 
 returns : tie.Need-returns
-returns c = read-front _ _ (c .before .before .before .pre) _ (c .read .ensures)
+returns c = read-front _ _ (c .before .before .before .before .pre .0) _ (c .read-numbers .ensures .answer)
 
 pub read-spec : {M : Type 1} → statement M
-read-spec = tie.close (tie.spec slice-aggregate-read read-requires returns)
+read-spec = tie.close (tie.spec slice-aggregate-read-numbers read-numbers-requires returns)

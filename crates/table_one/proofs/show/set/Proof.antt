@@ -1,14 +1,15 @@
--- `show::set` asks of each of 32 functions.
+-- `show::set` asks of each function that there may be.
 use Prim.Native.Nat.{_≤_, _-_}
 use borrow.Author.Needs.{needs}
+use Rattle.model.specs.Places.{mostFunctions}
 use Rattle.table_one.proofs.show.set.Statement.{statement}
 use Rattle.table_one.proofs.show.set.Tie as tie
 
 abbrev Inv-loop : tie.InvT-loop
-Inv-loop word some₀ g₀ t5 some g = g ≤ 32
+Inv-loop word some₀ g₀ t5 some g = g ≤ mostFunctions
 
 abbrev μ-loop : tie.MeasureT-loop
-μ-loop word some₀ g₀ t5 some g = 32 - g
+μ-loop word some₀ g₀ t5 some g = mostFunctions - g
 
 slice-aggregate-text : tie.Need-slice-aggregate-text Inv-loop μ-loop
 slice-aggregate-text c = search needs

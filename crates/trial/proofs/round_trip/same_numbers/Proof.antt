@@ -4,12 +4,13 @@ use borrow.Author.Needs.{needs}
 use Rattle.trial.proofs.Alike.{Alike, alike-none, alike-more, alike-all, differ}
 use Rattle.trial.proofs.round_trip.same_numbers.Statement.{statement}
 use Rattle.trial.proofs.round_trip.same_numbers.Tie as tie
+use Rattle.model.specs.Places as places
 
 abbrev Inv-loop : tie.InvT-loop
-Inv-loop a b i₀ i = Alike 1446 a b i
+Inv-loop a b i₀ i = Alike places.end a b i
 
 abbrev μ-loop : tie.MeasureT-loop
-μ-loop a b i₀ i = 1446 - i
+μ-loop a b i₀ i = places.end - i
 
 loop-holds : tie.Need-loop-holds Inv-loop μ-loop
 loop-holds c = alike-none _ _ _ (search needs) (search needs)
@@ -27,7 +28,7 @@ array-read-if1-2 : tie.Need-array-read-if1-2 Inv-loop μ-loop
 array-read-if1-2 c = search needs
 
 returns : tie.Need-returns Inv-loop μ-loop
-returns c = differ 1446 _ _ (c .before .before .loop .i) (c .if1 .taken)
+returns c = differ places.end _ _ (c .before .before .loop .i) (c .if1 .taken)
 
 add-i : tie.Need-add-i Inv-loop μ-loop
 add-i c = search needs

@@ -1,0 +1,51 @@
+-- A run of edges that is taken at once.
+use Prim.Native.Nat.{ℕ, _+_, _*_, _-_, _≤_, _<_}
+use mathlib.Core.Path.{_≡_}
+use mathlib.Core.List.{List}
+use mathlib.Core.Bool.{true}
+use lib.ListN.{length, getD}
+use Rattle.model.specs.declared.Field.{Field}
+use Rattle.model.specs.File.{numberCount, edgeBefore, edgeSpan, readFrom, checkFrom}
+use Rattle.fields.specs.Valid.{Valid}
+use Rattle.model.specs.Places as places
+use Rattle.model.specs.Rows as rows
+
+-- The field k edges further on in their list.
+abbrev pub pastEdges : Field → ℕ → Field
+pastEdges c k = record { row = c .row; place = c .place + places.edgeWidth * k; left = c .left - k }
+
+-- Where the second edge starts.
+abbrev pub secondEdge : ℕ
+secondEdge = places.from + places.edgeWidth
+
+-- A run may start at a field: an edge's first number, behind the first edge.
+pub record Opens (c : Field) (vertices : ℕ) : Type 0 where
+  pub row : c .row ≡ rows.from
+  pub late : secondEdge ≤ c .place
+  pub few : vertices ≤ places.mostVertices
+
+-- An edge may stand at a place: its numbers are vertices, and it comes after the edge before it.
+pub record Follows (l : List ℕ) (place vertices from to : ℕ) : Type 0 where
+  pub from-vertex : from < vertices
+  pub to-vertex : to < vertices
+  pub order : edgeBefore (getD l (place - places.edgeWidth) 0) (getD l (place - places.edgeWidth + edgeSpan) 0) from to ≡ true
+
+-- What reading a run asks of the bytes, the field and the numbers.
+pub record Readable (s : List ℕ) (at : ℕ) (c : Field) (l : List ℕ) : Type 0 where
+  pub inside : at ≤ length s
+  pub valid : Valid c
+  pub long : length l ≡ numberCount
+
+-- The numbers l became m by a run of k edges, a byte a number, and what is left to read is the same.
+pub record EdgesRead (s : List ℕ) (at : ℕ) (c : Field) (l m : List ℕ) (k : ℕ) : Type 0 where
+  pub few : k ≤ c .left
+  pub inside : at + places.edgeWidth * k ≤ length s
+  pub valid : Valid (pastEdges c k)
+  pub long : length m ≡ numberCount
+  pub same : (n start : ℕ) → readFrom (n + places.edgeWidth * k) s at start c l ≡ readFrom n s (at + places.edgeWidth * k) start (pastEdges c k) m
+
+-- A run of k edges of the numbers l is judged good, a byte a number, and what is left to judge is the same.
+pub record EdgesChecked (c : Field) (l : List ℕ) (k : ℕ) : Type 0 where
+  pub few : k ≤ c .left
+  pub valid : Valid (pastEdges c k)
+  pub same : (n at start : ℕ) → checkFrom (n + places.edgeWidth * k) at start c l ≡ checkFrom n (at + places.edgeWidth * k) start (pastEdges c k) l

@@ -1,0 +1,114 @@
+// Runs of edges. Most of a large file is edges, so those that are sure to pass are taken at once: behind the list's first edge and before its last,
+// each a byte a number, in range and ascending. What ends a run is left to the steps from field to field.
+use fields::EDGE_SPAN;
+use model::Field;
+use model::Numbers;
+use model::places;
+use model::places::EDGE_WIDTH;
+use model::rows;
+ghost use mathlib.Core.Path.{_≡_};
+ghost use Prim.Native.Nat.{_+_, _*_, _≤_, _<_};
+ghost use mathlib.Core.Bool.{true};
+ghost use Rattle.model.specs.File.{numberCount};
+ghost use Rattle.model.specs.Places as spot;
+ghost use Rattle.fields.specs.Valid.{Valid};
+ghost use Rattle.edge_runs.specs.Edges.{pastEdges, Opens, secondEdge, Follows, Readable, EdgesRead, EdgesChecked};
+
+// The place where the second edge starts.
+const SECOND: usize = places::FROM + EDGE_WIDTH;
+
+const MOST_VERTICES: u64 = places::MOST_VERTICES as u64;
+
+// The field behind a run of edges.
+pub fn past_edges(c: Field, run: usize) -> Field
+    requires { ⌜ (run ≤ c .left) × (c .place + spot.edgeWidth * run < numberCount) ⌝ }
+    ensures { λ r. ⌜ r ≡ pastEdges c run ⌝ }
+{
+    Field {
+        row: c.row,
+        place: c.place + EDGE_WIDTH * run,
+        left: c.left - run,
+    }
+}
+
+// Whether a run may start at a field. No is always a safe answer, here and below: the steps go on from there.
+fn opens(field: Field, vertices: u64) -> bool
+    ensures { λ r. ⌜ (r ≡ true → Opens field vertices) ⌝ }
+{
+    if field.row != rows::FROM {
+        return false;
+    }
+    if field.place < SECOND {
+        return false;
+    }
+    vertices <= MOST_VERTICES
+}
+
+// Whether an edge may stand at a place: behind the edge before it, both its numbers vertices.
+fn follows(numbers: &Numbers, place: usize, vertices: u64, from: u64, to: u64) -> bool
+    requires { ⌜ (secondEdge ≤ place) × (place < numberCount) ⌝ }
+    ensures { λ r. ⌜ (r ≡ true → Follows (now (numbers .entry)) place vertices from to) ⌝ }
+{
+    if vertices <= from {
+        return false;
+    }
+    if vertices <= to {
+        return false;
+    }
+    let before = place - EDGE_WIDTH;
+    fields::edge_before(numbers[before], numbers[before + EDGE_SPAN], from, to)
+}
+
+// Reads a run from the field on, and answers how many edges it has.
+pub fn read_edges(bytes: &[u8], numbers: &mut Numbers, at: usize, field: Field) -> usize
+    requires { ⌜ Readable (now bytes) at field (now numbers) ⌝ }
+    ensures { λ r. ⌜ EdgesRead (now (bytes .entry)) at field (now (numbers .entry)) (now (numbers .exit)) r ⌝ }
+{
+    let vertices = numbers[places::VERTEX_COUNT];
+    let first = field.place;
+    let left = field.left;
+    let mut run: usize = 0;
+    if !opens(field, vertices) {
+        return run;
+    }
+    while run < left {
+        let pos = at + EDGE_WIDTH * run;
+        let place = first + EDGE_WIDTH * run;
+        if bytes.len() < pos + EDGE_WIDTH {
+            return run;
+        }
+        let from = bytes[pos] as u64;
+        let to = bytes[pos + EDGE_SPAN] as u64;
+        if !follows(numbers, place, vertices, from, to) {
+            return run;
+        }
+        numbers[place] = from;
+        numbers[place + EDGE_SPAN] = to;
+        run += 1;
+    }
+    run
+}
+
+// The same of numbers that are there already: how many edges from the field on are sure to pass.
+pub fn check_edges(numbers: &Numbers, field: Field) -> usize
+    requires { ⌜ Valid field ⌝ }
+    ensures { λ r. ⌜ EdgesChecked field (now (numbers .entry)) r ⌝ }
+{
+    let vertices = numbers[places::VERTEX_COUNT];
+    let first = field.place;
+    let left = field.left;
+    let mut run: usize = 0;
+    if !opens(field, vertices) {
+        return run;
+    }
+    while run < left {
+        let place = first + EDGE_WIDTH * run;
+        let from = numbers[place];
+        let to = numbers[place + EDGE_SPAN];
+        if !follows(numbers, place, vertices, from, to) {
+            return run;
+        }
+        run += 1;
+    }
+    run
+}

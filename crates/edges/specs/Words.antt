@@ -1,0 +1,48 @@
+-- Rules 8 and 9 by words, of which bit b stands for loop b.
+use Prim.Native.Nat.{ℕ, zero, suc, _+_, _<_}
+use mathlib.Core.Path.{_≡_}
+use mathlib.Core.List.{List}
+use mathlib.Core.Bool.{Bool, not, _&&_, _||_}
+use lib.ListN.{length, getD}
+use lib.Dec.{eqb, ltb, leb}
+use lib.Bits.{bitAnd, bitOr, bitXor}
+use Rattle.model.specs.declared.Edge.{Edge}
+use Rattle.model.specs.declared.Loop.{Loop}
+use Rattle.model.specs.Graph.{edge, loop, holds, noReturn}
+use Rattle.bits.specs.Tests.{has}
+use Rattle.model.specs.Places as places
+
+-- The loops whose range holds v: those held over from the vertex before, and those that start here. Those that end here are not held over.
+unfoldable pub heldOver : List ℕ → ℕ → ℕ
+heldOver marks zero = 0
+heldOver marks (suc v) =
+    let here = bitOr (heldOver marks v) (getD marks v 0) in
+    bitXor (bitOr here (getD marks (places.mostVertices + v) 0)) (getD marks (places.mostVertices + v) 0)
+
+abbrev pub aroundAt : List ℕ → ℕ → ℕ
+aroundAt marks v = bitOr (heldOver marks v) (getD marks v 0)
+
+-- Bit b of the word of each vertex that there may be is a test of loop b, one of the first n.
+abbrev pub BitsTell : ℕ → (ℕ → ℕ → Bool) → (ℕ → ℕ) → Type 0
+BitsTell n test word = (v b : ℕ) → v < places.mostVertices → has (word v) b ≡ (ltb b n && test b v)
+
+pub record Headed (ls : List Loop) (marks : List ℕ) : Type 0 where
+  pub told : BitsTell (length ls) (λ b v. eqb (loop ls b .header) v) (λ v. getD marks v 0)
+
+pub record Around (ls : List Loop) (around : List ℕ) : Type 0 where
+  pub told : BitsTell (length ls) (λ b v. holds (loop ls b) v) (λ v. getD around v 0)
+
+-- A wrong edge, told by the loops around its end and its start and those headed by its end.
+unfoldable pub wrongBy : ℕ → ℕ → ℕ → ℕ → ℕ → Bool
+wrongBy into out heads from to =
+    not (eqb (bitXor (bitOr into (bitOr out heads)) (bitOr out heads)) 0)
+    || (leb to from && eqb (bitAnd heads out) 0)
+
+-- The loops that one of the first k edges returns to.
+unfoldable pub returnedBy : List Edge → List ℕ → List ℕ → ℕ → ℕ
+returnedBy es around marks zero = 0
+returnedBy es around marks (suc k) =
+    bitOr (returnedBy es around marks k) (bitAnd (getD marks (edge es k .to) 0) (getD around (edge es k .from) 0))
+
+pub record Returned (es : List Edge) (ls : List Loop) (word : ℕ) : Type 0 where
+  pub told : (j : ℕ) → j < length ls → has word j ≡ not (noReturn es (loop ls j))

@@ -1,0 +1,5 @@
+pub mod Begins
+pub mod Edges
+pub mod Reached
+pub mod Visits
+pub mod Sweeps

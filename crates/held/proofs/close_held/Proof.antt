@@ -1,0 +1,55 @@
+-- `held::close_held` sweeps until the table is settled. Each turn raises the sum of the words or is the last.
+use native.Mathlib.Omega.{arith}
+use Rattle.model.specs.Numbers.{problemOf}
+use Rattle.flow.proofs.Sweeps.{Closing, not-begun, swept-on, at-rest, room, falls}
+use Rattle.held.specs.Flow.{heldFlow}
+use Rattle.held.proofs.close_held.Statement.{statement}
+use Rattle.held.proofs.close_held.Tie as tie
+use Rattle.model.specs.Places as places
+
+abbrev Inv-loop : tie.InvT-loop
+Inv-loop l rivals held₀ begins marks₀ changed₀ held marks changed = Closing l (heldFlow (problemOf l) rivals) begins held₀ marks held changed
+
+abbrev μ-loop : tie.MeasureT-loop
+μ-loop l rivals held₀ begins marks₀ changed₀ held marks changed = room places.mostVertices held changed
+
+starts-requires : tie.Need-starts-requires Inv-loop μ-loop
+starts-requires c κs = c .before .pre .0
+
+loop-holds : tie.Need-loop-holds Inv-loop μ-loop
+loop-holds c = not-begun _ (c .before .before .pre .0) (c .starts .ensures) (c .before .before .pre .1 .0) (c .before .before .pre .1 .1)
+
+sweep-held-requires : tie.Need-sweep-held-requires Inv-loop μ-loop
+sweep-held-requires c κs = c .before .before .before .before .loop .inv .underway
+
+abbrev swept : tie.After-slice-known2 Inv-loop μ-loop → tie.After-sweep-held Inv-loop μ-loop
+swept c = c .before .before
+
+abbrev turn-of : tie.After-sweep-held Inv-loop μ-loop → tie.In-loop Inv-loop μ-loop
+turn-of c = c .before .before .before .before
+
+loop-less : tie.Need-loop-less Inv-loop μ-loop
+loop-less c = falls (turn-of (swept c) .loop-test .taken) (swept c .sweep-held .ensures) (λ i. omega (arith, c .slice-known2 .given i))
+
+loop-again : tie.Need-loop-again Inv-loop μ-loop
+loop-again c = swept-on (turn-of (swept c) .before .loop .inv) (swept c .sweep-held .ensures)
+
+same-length : tie.Need-same-length Inv-loop μ-loop
+same-length c = c .before .loop .inv .as-long
+
+returns : tie.Need-returns Inv-loop μ-loop
+returns c = at-rest (c .before .loop .inv) (c .loop-test .left)
+
+pub close-held-spec : {M : Type 1} → statement M
+close-held-spec =
+    tie.close
+    (tie.spec
+    Inv-loop
+    μ-loop
+    starts-requires
+    loop-holds
+    sweep-held-requires
+    loop-less
+    loop-again
+    same-length
+    returns)

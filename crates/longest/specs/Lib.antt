@@ -1,4 +1,0 @@
-pub mod Tables
-pub mod Chains
-pub mod Filling
-pub mod Longest

@@ -1,0 +1,17 @@
+-- The problem file and layouts: the greatest value of a number that no list's room limits, and the number of regions.
+use Prim.Native.Nat.{ℕ}
+
+-- A size, and a cost.
+abbrev pub mostBytes : ℕ
+mostBytes = 16777215
+
+abbrev pub mostCycles : ℕ
+mostCycles = 16777215
+
+-- A loop's bound.
+abbrev pub mostVisits : ℕ
+mostVisits = 65535
+
+-- The regions, 0 to 31.
+abbrev pub mostRegions : ℕ
+mostRegions = 32

@@ -1,0 +1,14 @@
+-- What is told of equal outcomes is the same.
+use Prim.Native.Nat.{ℕ}
+use mathlib.Core.Path.{_≡_, ap, _∙_}
+use mathlib.Core.List.{List}
+use Rattle.outcomes.specs.Outcomes.{Outcome, status, answerAfter}
+
+pub told : (o p : Outcome) (n : ℕ) (before after : List ℕ) → o ≡ p → n ≡ status o → after ≡ answerAfter o before →
+    (n ≡ status p) × (after ≡ answerAfter p before)
+told o p n before after same e q = (e ∙ ap status same, q ∙ ap (λ (x : Outcome). answerAfter x before) same)
+
+-- The same beside what is said of another lent buffer.
+pub told-with : {P : Type 0} (o p : Outcome) (n : ℕ) (before after : List ℕ) → o ≡ p → n ≡ status o → after ≡ answerAfter o before → P →
+    (n ≡ status p) × ((after ≡ answerAfter p before) × P)
+told-with o p n before after same e q also = let t = told o p n before after same e q in (t .0, (t .1, also))

@@ -1,0 +1,106 @@
+// How an export's caller is told: the number returned is 0, and `answer` begins with the result's numbers; or it is the refusal's number, and answer[0] is
+// the refusal's place.
+use model::BoundAnswer;
+use model::InterferenceAnswer;
+use model::Numbers;
+use model::Refusal;
+use model::RunAnswer;
+use model::WriteAnswer;
+use model::places;
+ghost use mathlib.Core.Path.{_≡_};
+ghost use mathlib.Core.List.{[], _∷_};
+ghost use Rattle.model.specs.Numbers.{problemOf};
+ghost use Rattle.outcomes.specs.Outcomes.{Results, Refusing, status, answerAfter, counts, onWritten, onFilled, onBounded, onRan};
+
+// What a caller lends for the numbers of an answer.
+pub type Answer = [u64; 4];
+
+// Tells a refusal.
+pub fn refuse(refusal: Refusal, answer: &mut Answer) -> u32
+    ensures { λ r. ⌜ r ≡ status (Refusing refusal) ⌝ ∗ ⌜ now (answer .exit) ≡ answerAfter (Refusing refusal) (now (answer .entry)) ⌝ }
+{
+    answer[0] = model::place_of(refusal);
+    model::number_of(refusal)
+}
+
+// Tells a result of four numbers.
+fn tell_four(first: u64, second: u64, third: u64, fourth: u64, answer: &mut Answer) -> u32
+    ensures { λ r. ⌜ r ≡ status (Results (first ∷ second ∷ third ∷ fourth ∷ [])) ⌝ }
+    ensures { λ r. ⌜ now (answer .exit) ≡ answerAfter (Results (first ∷ second ∷ third ∷ fourth ∷ [])) (now (answer .entry)) ⌝ }
+{
+    answer[0] = first;
+    answer[1] = second;
+    answer[2] = third;
+    answer[3] = fourth;
+    0
+}
+
+// Tells the numbers of functions, vertices, edges and loops.
+pub fn tell_counts(l: &Numbers, answer: &mut Answer) -> u32
+    ensures { λ r. ⌜ r ≡ status (Results (counts (problemOf (now (l .entry))))) ⌝ }
+    ensures { λ r. ⌜ now (answer .exit) ≡ answerAfter (Results (counts (problemOf (now (l .entry))))) (now (answer .entry)) ⌝ }
+{
+    tell_four(
+        l[places::FUNCTION_COUNT],
+        l[places::VERTEX_COUNT],
+        l[places::EDGE_COUNT],
+        l[places::LOOP_COUNT],
+        answer,
+    )
+}
+
+// Tells what Write gave.
+pub fn tell_written(written: WriteAnswer, answer: &mut Answer) -> u32
+    ensures { λ r. ⌜ r ≡ status (onWritten written) ⌝ ∗ ⌜ now (answer .exit) ≡ answerAfter (onWritten written) (now (answer .entry)) ⌝ }
+{
+    match written {
+        WriteAnswer::Refused(refusal) => refuse(refusal, answer),
+        WriteAnswer::Written(bytes) => {
+            answer[0] = bytes as u64;
+            0
+        }
+    }
+}
+
+// Tells what Interference gave.
+pub fn tell_filled(filled: InterferenceAnswer, answer: &mut Answer) -> u32
+    ensures { λ r. ⌜ r ≡ status (onFilled filled) ⌝ ∗ ⌜ now (answer .exit) ≡ answerAfter (onFilled filled) (now (answer .entry)) ⌝ }
+{
+    match filled {
+        InterferenceAnswer::Refused(refusal) => refuse(refusal, answer),
+        InterferenceAnswer::Filled(words) => {
+            answer[0] = words as u64;
+            0
+        }
+    }
+}
+
+// Tells what Bound gave.
+pub fn tell_bounded(bounded: BoundAnswer, answer: &mut Answer) -> u32
+    ensures { λ r. ⌜ r ≡ status (onBounded bounded) ⌝ ∗ ⌜ now (answer .exit) ≡ answerAfter (onBounded bounded) (now (answer .entry)) ⌝ }
+{
+    match bounded {
+        BoundAnswer::Refused(refusal) => refuse(refusal, answer),
+        BoundAnswer::Bounded(b) => tell_four(
+            b.need.0,
+            b.contested as u64,
+            b.first.0,
+            b.bound.0,
+            answer,
+        ),
+    }
+}
+
+// Tells what Run gave.
+pub fn tell_ran(ran: RunAnswer, answer: &mut Answer) -> u32
+    ensures { λ r. ⌜ r ≡ status (onRan ran) ⌝ ∗ ⌜ now (answer .exit) ≡ answerAfter (onRan ran) (now (answer .entry)) ⌝ }
+{
+    match ran {
+        RunAnswer::Refused(refusal) => refuse(refusal, answer),
+        RunAnswer::Ran(run) => {
+            answer[0] = run.cycles.0;
+            answer[1] = run.loads;
+            0
+        }
+    }
+}

@@ -1,0 +1,66 @@
+-- What running a walk keeps: the cycles, the loads and the function held in each region, after a history.
+use Prim.Native.Nat.{ℕ, _+_, _*_, _^_, _≤_, _<_}
+use mathlib.Core.Path.{_≡_}
+use mathlib.Core.List.{List, []}
+use mathlib.Core.Bool.{cond}
+use lib.ListN.{length, getD, set}
+use lib.Dec.{eqb}
+use Rattle.model.specs.declared.Problem.{Problem}
+use Rattle.model.specs.declared.Run.{Run}
+use Rattle.model.specs.declared.Verdict.the-variants.{Accepted}
+use Rattle.model.specs.Numbers.{table, problemOf}
+use Rattle.model.specs.Operations.{Checked}
+use Rattle.model.specs.Costs.{functionOf, ownCost, loadCost}
+use Rattle.model.specs.Layouts.{regionOf}
+use Rattle.model.specs.Runs.{cycles, loads, heldAfter}
+use Rattle.model.specs.Verdicts.{judgeWalk, walkLimit}
+use Rattle.model.specs.Places.{mostVertices}
+use Rattle.model.specs.Limits as limits
+
+-- The state of a run after a history: what Run gives.
+pub record Ran (p : Problem) (layout h held : List ℕ) (run : Run) : Type 0 where
+  pub cycles-are : run .cycles .0 ≡ cycles p layout h
+  pub loads-are : run .loads ≡ loads p layout h
+  pub held-are : held ≡ table limits.mostRegions (heldAfter p layout h)
+
+-- Two places a vertex.
+abbrev pub pairCount : ℕ
+pairCount = 2 * mostVertices
+
+-- A table with two numbers for each k below n.
+pub record Pairs (first second : ℕ → ℕ) (n : ℕ) (t : List ℕ) : Type 0 where
+  pub long : length t ≡ pairCount
+  pub one : (k : ℕ) → k < n → getD t (2 * k) 0 ≡ first k
+  pub other : (k : ℕ) → k < n → getD t (2 * k + 1) 0 ≡ second k
+
+-- Each vertex's function and its region.
+abbrev pub Places : Problem → List ℕ → List ℕ → Type 0
+Places p layout t = Pairs (functionOf p) (λ v. regionOf layout (functionOf p v)) (p .«vertex_count») t
+
+-- The cost of a visit to each vertex without a load, and with one.
+abbrev pub Costs : Problem → List ℕ → Type 0
+Costs p t = Pairs (ownCost p) (λ v. ownCost p v + loadCost p (functionOf p v)) (p .«vertex_count») t
+
+-- The loads of a visit to v, by the tables.
+abbrev pub loadsAt : List ℕ → List ℕ → ℕ → ℕ
+loadsAt places held v = cond (eqb (getD held (getD places (2 * v + 1) 0) 0) (getD places (2 * v) 0)) 0 1
+
+-- A visit to v, by the tables, from a state that leaves room for its cost.
+pub record Visiting (places costs : List ℕ) (run : Run) (v : ℕ) : Type 0 where
+  pub inside : v < mostVertices
+  pub function-small : getD places (2 * v) 0 < 2 ^ 8
+  pub region-small : getD places (2 * v + 1) 0 < limits.mostRegions
+  pub cycles-fit : (loads : ℕ) → loads ≤ 1 → run .cycles .0 + getD costs (2 * v + loads) 0 < 2 ^ 64
+  pub loads-fit : run .loads + 1 < 2 ^ 64
+
+pub record Visited (places costs before after : List ℕ) (run run′ : Run) (v : ℕ) : Type 0 where
+  pub cycles-are : run′ .cycles .0 ≡ run .cycles .0 + getD costs (2 * v + loadsAt places before v) 0
+  pub loads-are : run′ .loads ≡ run .loads + loadsAt places before v
+  pub held-are : after ≡ set before (getD places (2 * v + 1) 0) (getD places (2 * v) 0)
+
+-- A walk that Run runs: each refusal before the result is ruled out.
+pub record Runnable (l layout walk : List ℕ) : Type 0 where
+  pub checked : Checked l
+  pub regions : (f : ℕ) → f < problemOf l .«function_count» → regionOf layout f < limits.mostRegions
+  pub short : length walk ≤ walkLimit
+  pub accepted : judgeWalk (problemOf l) [] 0 walk ≡ Accepted

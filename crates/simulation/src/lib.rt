@@ -1,0 +1,124 @@
+// A walk, run visit by visit from empty regions: one pass over the entries, which looks up in tables what it asks of a vertex and takes no branch that is
+// as hard to foresee as the walk.
+use model::Cycles;
+use model::Numbers;
+use model::Run;
+use model::limits;
+use model::places;
+use model::units;
+ghost use mathlib.Core.Path.{_≡_};
+ghost use mathlib.Core.List.{reverse};
+ghost use mathlib.Core.Bool.{cond};
+ghost use Prim.Native.Nat.{_+_, _*_, _≤_, _<_};
+ghost use lib.ListN.{getD};
+ghost use lib.Dec.{eqb};
+ghost use Rattle.model.specs.Places.{mostVertices};
+ghost use Rattle.model.specs.Numbers.{problemOf};
+ghost use Rattle.model.specs.Operations.{Checked};
+ghost use Rattle.simulation.specs.Running.{Places, Costs, Visiting, Visited, Ran, Runnable};
+
+// Two places a vertex.
+const PAIR_COUNT: usize = 2 * places::MOST_VERTICES;
+
+// For each region the number of the function that it holds.
+pub type Regions = [u8; limits::MOST_REGIONS];
+
+// Stands for no function.
+const NONE: u8 = 255;
+
+// The function of each vertex and the region of that.
+fn place_table(l: &Numbers, layout: &[u8]) -> [usize; PAIR_COUNT]
+    requires { ⌜ Checked (now l) ⌝ }
+    ensures { λ r. ⌜ Places (problemOf (now (l .entry))) (now (layout .entry)) r ⌝ }
+{
+    let mut table = [0usize; PAIR_COUNT];
+    let count = lookup::vertex_count(l);
+    let mut v: usize = 0;
+    while v < count {
+        let f = lookup::function_of(l, v);
+        table[2 * v] = f;
+        table[2 * v + 1] = layout::region_of(layout, f);
+        v += 1;
+    }
+    table
+}
+
+// The cost of a visit to each vertex without a load and with one.
+fn cost_table(l: &Numbers) -> [u64; PAIR_COUNT]
+    requires { ⌜ Checked (now l) ⌝ }
+    ensures { λ r. ⌜ Costs (problemOf (now (l .entry))) r ⌝ }
+{
+    let mut table = [0u64; PAIR_COUNT];
+    let count = lookup::vertex_count(l);
+    let mut v: usize = 0;
+    while v < count {
+        let own = lookup::own_cost(l, v);
+        let load = lookup::load_of(l, lookup::function_of(l, v));
+        let both = units::sum_of_cycles(own, load);
+        table[2 * v] = own.0;
+        table[2 * v + 1] = both.0;
+        v += 1;
+    }
+    table
+}
+
+// The loads of a visit to a function in whose region `held` is found.
+fn loads_where(held: u8, function: u8) -> usize
+    ensures { λ r. ⌜ r ≡ cond (eqb held function) 0 1 ⌝ }
+{
+    if held == function {
+        return 0;
+    }
+    1
+}
+
+// The cost of a visit with that many loads. The loads tell the place, so that no branch asks for them.
+fn cost_of_visit(costs: &[u64; PAIR_COUNT], v: usize, loads: usize) -> Cycles
+    requires { ⌜ v < mostVertices ⌝ ∗ ⌜ loads ≤ 1 ⌝ }
+    ensures { λ r. ⌜ r .0 ≡ getD (now (costs .entry)) (2 * v + loads) 0 ⌝ }
+{
+    Cycles(costs[2 * v + loads])
+}
+
+// One visit of a run: its cost, and the function held in its region afterwards.
+fn visit(
+    places: &[usize; PAIR_COUNT],
+    costs: &[u64; PAIR_COUNT],
+    held: &mut Regions,
+    run: Run,
+    v: usize,
+) -> Run
+    requires { ⌜ Visiting (now places) (now costs) run v ⌝ }
+    ensures { λ r. ⌜ Visited (now (places .entry)) (now (costs .entry)) (now (held .entry)) (now (held .exit)) run r v ⌝ }
+{
+    let function = places[2 * v] as u8;
+    let region = places[2 * v + 1];
+    let loads = loads_where(held[region], function);
+    held[region] = function;
+    let cycles = units::sum_of_cycles(run.cycles, cost_of_visit(costs, v, loads));
+    Run {
+        cycles: cycles,
+        loads: run.loads + loads as u64,
+    }
+}
+
+// Runs a judged walk from empty regions.
+pub fn simulate(l: &Numbers, layout: &[u8], walk: &[u32], held: &mut Regions) -> Run
+    requires { ⌜ Runnable (now l) (now layout) (now walk) ⌝ }
+    ensures { λ r. ⌜ Ran (problemOf (now (l .entry))) (now (layout .entry)) (reverse (now (walk .entry))) (now (held .exit)) r ⌝ }
+{
+    *held = [NONE; limits::MOST_REGIONS];
+    let places = place_table(l, layout);
+    let costs = cost_table(l);
+    let mut run = Run {
+        cycles: Cycles(0),
+        loads: 0,
+    };
+    let mut i: usize = 0;
+    while i < walk.len() {
+        let v = walk[i] as usize;
+        run = visit(&places, &costs, held, run, v);
+        i += 1;
+    }
+    run
+}
