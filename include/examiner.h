@@ -17,32 +17,34 @@
  *   - Nothing is kept after the return, and nothing is allocated. Calls from several threads need no lock as long as nothing writes
  *     to memory that is lent to a call.
  *
- * REFUSALS
+ * REFUSALS, by number and name
  *   in the file, field by field
- *     1   the bytes end before a number does                        place: the file's length
- *     2   a misspelt number: a fifth byte above 0F (hexadecimal),
- *         or a zero last byte after others                          place: its first byte
- *     3   a number out of range                                     place: its first byte
- *     4   not ascending: edges by (from, to), loops by header       place: the item's first byte
- *     5   bytes left over after the last loop                       place: the first of them
+ *     1  EndsEarly           the bytes end before a number does               place: the file's length
+ *     2  Misspelt            a fifth byte above 0F (hexadecimal), or a zero
+ *                            last byte after others                           place: the number's first byte
+ *     3  OutOfRange          a number out of range                            place: its first byte
+ *     4  NotAscending        edges by (from, to), loops by header             place: the item's first byte
+ *     5  LeftOver            bytes left over after the last loop              place: the first of them
  *   in the graph, a whole rule at a time; items count from 0
- *     6   a vertex lacks an edge that it must have                  place: the lowest vertex
- *     7   a loop crosses an earlier one or holds the last vertex    place: the lowest loop
- *     8   a wrong edge                                              place: the lowest edge
- *     9   a loop with no edge back to its header                    place: the lowest loop
+ *     6  MissingEdge         a vertex lacks an edge that it must have         place: the lowest vertex
+ *     7  WrongLoop           a loop crosses an earlier one or holds the last
+ *                            vertex                                           place: the lowest loop
+ *     8  WrongEdge           a wrong edge                                     place: the lowest edge
+ *     9  NoEdgeBack          a loop with no edge back to its header           place: the lowest loop
  *   in what is lent
- *    10   a buffer is too short                                     place: bytes, or words, needed
+ *    10  BufferTooShort      a buffer is too short                            place: bytes, or words, needed
  *   in the layout
- *    11   longer than the list of functions                         place: the number of functions
- *    12   a region above 31                                         place: the lowest function
- *    13   it needs more than the scratchpad                         place: bytes needed
- *    14   the bound passes EXAMINER_MOST_BOUND                      place: 0
+ *    11  LayoutTooLong       longer than the list of functions                place: the number of functions
+ *    12  UnknownRegion       a region above 31                                place: the lowest function
+ *    13  ScratchpadTooSmall  it needs more than the scratchpad                place: bytes needed
+ *    14  BoundTooLarge       the bound passes EXAMINER_MOST_BOUND             place: 0
  *   in the walk
- *    15   not vertex 0 at position 0, no edge from the entry
- *         before, an unknown vertex, or the end is not the last
- *         vertex (then the place is the length)                     place: the first bad position
- *    16   a header is visited more often than its bound             place: the first bad position
- *    17   more than EXAMINER_MOST_ENTRIES entries                   place: EXAMINER_MOST_ENTRIES
+ *    15  WrongStep           not vertex 0 at position 0, no edge from the
+ *                            entry before, an unknown vertex, or the end is
+ *                            not the last vertex (then the place is the
+ *                            length)                                          place: the first bad position
+ *    16  BeyondBound         a header is visited more often than its bound    place: the first bad position
+ *    17  WalkTooLong         more than EXAMINER_MOST_ENTRIES entries          place: EXAMINER_MOST_ENTRIES
  */
 #ifndef EXAMINER_H
 #define EXAMINER_H
@@ -60,10 +62,21 @@ extern "C" {
 #define EXAMINER_MOST_EDGES 512
 #define EXAMINER_MOST_LOOPS 32
 
-/* The places of `answer`, of `held` (regions are 0 to 31) and of `fields`. */
+/* The places of `answer`, and of `held` (regions are 0 to 31). */
 #define EXAMINER_ANSWERS 4
 #define EXAMINER_REGIONS 32
-#define EXAMINER_FIELDS 1445
+
+/* The places of `fields`: of each count, of the first item of the list behind it, and how many there are. */
+#define EXAMINER_SCRATCHPAD 0
+#define EXAMINER_FUNCTION_COUNT (EXAMINER_SCRATCHPAD + 1)
+#define EXAMINER_FUNCTIONS (EXAMINER_FUNCTION_COUNT + 1)
+#define EXAMINER_VERTEX_COUNT (EXAMINER_FUNCTIONS + 2 * EXAMINER_MOST_FUNCTIONS)
+#define EXAMINER_VERTICES (EXAMINER_VERTEX_COUNT + 1)
+#define EXAMINER_EDGE_COUNT (EXAMINER_VERTICES + 2 * EXAMINER_MOST_VERTICES)
+#define EXAMINER_EDGES (EXAMINER_EDGE_COUNT + 1)
+#define EXAMINER_LOOP_COUNT (EXAMINER_EDGES + 2 * EXAMINER_MOST_EDGES)
+#define EXAMINER_LOOPS (EXAMINER_LOOP_COUNT + 1)
+#define EXAMINER_FIELDS (EXAMINER_LOOPS + 3 * EXAMINER_MOST_LOOPS)
 
 /* In `held`: no function was loaded into the region. */
 #define EXAMINER_NONE 255
@@ -130,16 +143,16 @@ uint32_t examiner_run(const uint8_t *file, size_t file_length, const uint8_t *la
 /*
  * Write on any record, lawful or not. `fields` are EXAMINER_FIELDS numbers:
  *
- *   place   number
- *       0   scratchpad size
- *       1   number of functions
- *       2   32 times: size, load cost
- *      66   number of vertices
- *      67   128 times: function, own cost
- *     323   number of edges
- *     324   512 times: from, to
- *    1348   number of loops
- *    1349   32 times: header, last, bound
+ *   place                     number
+ *   EXAMINER_SCRATCHPAD       scratchpad size
+ *   EXAMINER_FUNCTION_COUNT   number of functions
+ *   EXAMINER_FUNCTIONS        EXAMINER_MOST_FUNCTIONS times: size, load cost
+ *   EXAMINER_VERTEX_COUNT     number of vertices
+ *   EXAMINER_VERTICES         EXAMINER_MOST_VERTICES times: function, own cost
+ *   EXAMINER_EDGE_COUNT       number of edges
+ *   EXAMINER_EDGES            EXAMINER_MOST_EDGES times: from, to
+ *   EXAMINER_LOOP_COUNT       number of loops
+ *   EXAMINER_LOOPS            EXAMINER_MOST_LOOPS times: header, last, bound
  *
  * Places past a count are spare: they may have any value and are no part of the problem. Bytes of `out` past the file keep their
  * values.

@@ -1,6 +1,6 @@
 //! The greatest sum of visit charges over all lawful walks.
 //!
-//! A sum may pass every machine number (32 nested loops of 65,535 visits), so sums stop at the greatest `u128`. That is far
+//! A sum may pass every machine number (32 nested loops of the most visits), so sums stop at the greatest `u128`. That is far
 //! above the limit for bounds, and adding, multiplying and taking the greater keep it there.
 
 use std::collections::HashMap;

@@ -48,10 +48,10 @@ const ODD_VALUES: [u32; 24] = [
     511,
     512,
     513,
-    65_535,
-    65_536,
-    16_777_215,
-    16_777_216,
+    MOST_VISITS,
+    MOST_VISITS + 1,
+    MOST_SIZE,
+    MOST_SIZE + 1,
     1 << 28,
     u32::MAX - 1,
     u32::MAX,
@@ -186,13 +186,21 @@ pub fn damaged_problem(random: &mut Random, problem: &Problem, damage: u32) -> P
     problem
 }
 
-/// Where the counts stand in a record.
-pub const COUNT_PLACES: [usize; 4] = [1, 66, 323, 1348];
+/// How many items each list of a record has room for, and how many numbers an item has.
+const ITEMS: [(usize, usize); 4] = [(MOST_FUNCTIONS, 2), (MOST_VERTICES, 2), (MOST_EDGES, 2), (MOST_LOOPS, 3)];
+
+/// Where the counts stand in a record: behind the scratchpad size, each before its list.
+pub const COUNT_PLACES: [usize; 4] = {
+    let functions = 1;
+    let vertices = functions + 1 + ITEMS[0].0 * ITEMS[0].1;
+    let edges = vertices + 1 + ITEMS[1].0 * ITEMS[1].1;
+    let loops = edges + 1 + ITEMS[2].0 * ITEMS[2].1;
+    [functions, vertices, edges, loops]
+};
 
 /// Gives the spare places of a record any values.
 pub fn fill_spare_places(random: &mut Random, fields: &mut [u32; FIELDS]) {
-    let items = [(32, 2), (128, 2), (512, 2), (32, 3)];
-    for (&place, (most, width)) in COUNT_PLACES.iter().zip(items) {
+    for (&place, (most, width)) in COUNT_PLACES.iter().zip(ITEMS) {
         let count = fields[place] as usize;
         for spare in count.min(most) * width..most * width {
             fields[place + 1 + spare] = if random.percent(50) { random.any() as u32 } else { *random.pick(&ODD_VALUES) };
@@ -207,8 +215,8 @@ pub fn damage_fields(random: &mut Random, fields: &mut [u32; FIELDS]) {
         1 => *random.pick(&COUNT_PLACES),
         _ => {
             let kind = random.count(0..=3);
-            let width = if kind == 3 { 3 } else { 2 };
-            let count = (fields[COUNT_PLACES[kind]] as usize).min([32, 128, 512, 32][kind]);
+            let (most, width) = ITEMS[kind];
+            let count = (fields[COUNT_PLACES[kind]] as usize).min(most);
             COUNT_PLACES[kind] + random.count(0..=count * width)
         }
     };

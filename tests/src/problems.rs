@@ -228,7 +228,7 @@ pub fn longest(random: &mut Random) -> Problem {
 }
 
 /// A problem whose greatest visit charges under the empty layout are exactly `total` and whose one function has a load cost of
-/// `load`: nests of three, two and one loops of 65,535 visits, and a vertex outside all loops, each as often as it goes into the rest.
+/// `load`: nests of three, two and one loops of the most visits, and a vertex outside all loops, each as often as it goes into the rest.
 pub fn with_total(total: u64, load: u32) -> Problem {
     let mut vertices = Vec::new();
     let mut edges = Vec::new();
@@ -250,7 +250,7 @@ pub fn with_total(total: u64, load: u32) -> Problem {
             }
         }
     }
-    assert_eq!(rest, 0, "the rest is below 65,535 after each nest");
+    assert_eq!(rest, 0, "the rest is below the most visits after each nest");
     // the last vertex is outside all loops and has no edge out
     edges.retain(|edge| (edge.from as usize) < vertices.len() - 1);
     edges.sort_unstable();

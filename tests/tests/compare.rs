@@ -132,7 +132,7 @@ impl Comparison {
         let mut wanted = out.clone();
         let written = reference::write_fields(fields, wanted.part_mut());
         let (part, room) = (lent.part(), out.part_mut());
-        // SAFETY: `part` has 1,445 places; all are valid for the call, and apart.
+        // SAFETY: `part` has a place for each field; all are valid for the call, and apart.
         self.call("examiner_write_fields", &written.map(|bytes| vec![bytes as u64]), |answer| unsafe {
             examiner::raw::examiner_write_fields(part.as_ptr(), room.as_mut_ptr(), room.len(), answer)
         });
@@ -298,29 +298,30 @@ impl Comparison {
 /// A record in the wrapper's form.
 fn wrapped_fields(fields: &[u32; FIELDS]) -> examiner::Fields {
     use examiner::{Edge, Fields, Function, Loop, Vertex};
-    let pair = |place: usize, item: usize| (fields[place + 2 * item], fields[place + 2 * item + 1]);
+    let [functions, vertices, edges, loops] = COUNT_PLACES;
+    let pair = |count: usize, item: usize| (fields[count + 1 + 2 * item], fields[count + 2 + 2 * item]);
     let mut wrapped = Fields {
         scratchpad: fields[0],
-        function_count: fields[1],
-        vertex_count: fields[66],
-        edge_count: fields[323],
-        loop_count: fields[1348],
+        function_count: fields[functions],
+        vertex_count: fields[vertices],
+        edge_count: fields[edges],
+        loop_count: fields[loops],
         ..Fields::default()
     };
     for (item, function) in wrapped.functions.iter_mut().enumerate() {
-        let (size, load) = pair(2, item);
+        let (size, load) = pair(functions, item);
         *function = Function { size, load };
     }
     for (item, vertex) in wrapped.vertices.iter_mut().enumerate() {
-        let (function, cost) = pair(67, item);
+        let (function, cost) = pair(vertices, item);
         *vertex = Vertex { function, cost };
     }
     for (item, edge) in wrapped.edges.iter_mut().enumerate() {
-        let (from, to) = pair(324, item);
+        let (from, to) = pair(edges, item);
         *edge = Edge { from, to };
     }
     for (item, l) in wrapped.loops.iter_mut().enumerate() {
-        let place = 1349 + 3 * item;
+        let place = loops + 1 + 3 * item;
         *l = Loop { header: fields[place], last: fields[place + 1], bound: fields[place + 2] };
     }
     wrapped
@@ -617,15 +618,16 @@ fn long_walks(c: &mut Comparison) {
     c.layout_and_walk(&file, &[0, 32, 2], &longer);
     c.layout_and_walk(&file[1..], &[], &longer);
 
-    // the 65,536th visit in one stay
+    // one visit more than any bound allows, in one stay
     let mut longest_stay = r();
     longest_stay.loops[0].bound = MOST_VISITS;
     let file = file_of(&longest_stay);
     let visits = |times: usize| [&[0], &[1, 2].repeat(times - 1)[..], &[1, 3]].concat();
-    assert!(reference::run(&file, &[], &visits(65_535)).is_ok());
-    assert_eq!(reference::run(&file, &[], &visits(65_536)), Err(Refusal { number: 16, place: 1 + 2 * 65_535 }));
-    c.layout_and_walk(&file, &[], &visits(65_535));
-    c.layout_and_walk(&file, &[], &visits(65_536));
+    let most = MOST_VISITS as usize;
+    assert!(reference::run(&file, &[], &visits(most)).is_ok());
+    assert_eq!(reference::run(&file, &[], &visits(most + 1)), Err(Refusal { number: 16, place: 1 + 2 * u64::from(MOST_VISITS) }));
+    c.layout_and_walk(&file, &[], &visits(most));
+    c.layout_and_walk(&file, &[], &visits(most + 1));
     // long stays in the largest problems
     for _ in 0..20 * effort() {
         let plan = Plan { bounds: vec![1, 100, MOST_VISITS], ..Plan::largest(&mut c.random) };

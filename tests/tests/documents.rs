@@ -1,5 +1,6 @@
-//! The documents name edits, proofs and definitions: each has to be there.
+//! The documents name edits, proofs and definitions: each has to be there. A refusal has one name, in whatever language.
 
+use examiner::RefusalKind;
 use std::fs;
 use std::path::Path;
 
@@ -30,4 +31,31 @@ fn what_the_documents_name_is_there() {
         }
     }
     assert!(seen > 40, "only {seen} paths were found in the documents");
+}
+
+/// The names that follow their numbers, 1, 2, .., in lines of a text.
+fn numbered<'a>(text: &'a str, name: impl Fn(&'a str, usize) -> Option<&'a str>) -> Vec<&'a str> {
+    let mut names: Vec<&str> = Vec::new();
+    for line in text.lines() {
+        names.extend(name(line, names.len() + 1));
+    }
+    names
+}
+
+#[test]
+fn a_refusal_has_one_name() {
+    let root = Path::new(env!("CARGO_MANIFEST_DIR")).join("..");
+    let header = fs::read_to_string(root.join("include/examiner.h")).expect("the header");
+    let source = fs::read_to_string(root.join("crates/model/src/lib.rt")).expect("the model");
+    let rust: Vec<String> = RefusalKind::ALL.iter().map(|kind| format!("{kind:?}")).collect();
+    let in_header = numbered(&header, |line, number| {
+        let mut words = line.split_whitespace();
+        (words.next() == Some("*") && words.next() == Some(&number.to_string())).then(|| words.next()).flatten()
+    });
+    let in_source = numbered(&source, |line, number| {
+        let arm = line.trim().strip_prefix("Refusal::")?;
+        arm.strip_suffix(&format!("(_) => {number},"))
+    });
+    assert_eq!(in_header, rust, "in include/examiner.h");
+    assert_eq!(in_source, rust, "in crates/model/src/lib.rt");
 }

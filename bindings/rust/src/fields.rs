@@ -2,6 +2,15 @@
 
 use std::mem;
 
+/// The most functions in a problem.
+pub const MOST_FUNCTIONS: usize = 32;
+/// The most vertices in a problem.
+pub const MOST_VERTICES: usize = 128;
+/// The most edges in a problem.
+pub const MOST_EDGES: usize = 512;
+/// The most loops in a problem.
+pub const MOST_LOOPS: usize = 32;
+
 /// A function.
 #[derive(Clone, Copy, Debug, Default, PartialEq, Eq, Hash)]
 #[repr(C)]
@@ -56,23 +65,32 @@ pub struct Fields {
     /// The number of functions, 1 to 32.
     pub function_count: u32,
     /// The functions.
-    pub functions: [Function; 32],
+    pub functions: [Function; MOST_FUNCTIONS],
     /// The number of vertices, 1 to 128.
     pub vertex_count: u32,
     /// The vertices. Vertex 0 is first, the highest is last.
-    pub vertices: [Vertex; 128],
+    pub vertices: [Vertex; MOST_VERTICES],
     /// The number of edges, 0 to 512.
     pub edge_count: u32,
     /// The edges, strictly ascending by (from, to).
-    pub edges: [Edge; 512],
+    pub edges: [Edge; MOST_EDGES],
     /// The number of loops, 0 to 32.
     pub loop_count: u32,
     /// The loops, strictly ascending by header.
-    pub loops: [Loop; 32],
+    pub loops: [Loop; MOST_LOOPS],
 }
 
-/// The places of a record.
-pub(crate) const PLACES: usize = 1445;
+/// The numbers of an item.
+const fn numbers<T>() -> usize {
+    mem::size_of::<T>() / mem::size_of::<u32>()
+}
+
+/// The places of a record: the scratchpad size, and each list behind its count.
+pub(crate) const PLACES: usize = 1
+    + (1 + numbers::<Function>() * MOST_FUNCTIONS)
+    + (1 + numbers::<Vertex>() * MOST_VERTICES)
+    + (1 + numbers::<Edge>() * MOST_EDGES)
+    + (1 + numbers::<Loop>() * MOST_LOOPS);
 
 // `Fields` is handed over as so many numbers.
 const _: () = assert!(mem::size_of::<Fields>() == PLACES * mem::size_of::<u32>());
@@ -84,13 +102,13 @@ impl Default for Fields {
         Fields {
             scratchpad: 0,
             function_count: 0,
-            functions: [Function::default(); 32],
+            functions: [Function::default(); MOST_FUNCTIONS],
             vertex_count: 0,
-            vertices: [Vertex::default(); 128],
+            vertices: [Vertex::default(); MOST_VERTICES],
             edge_count: 0,
-            edges: [Edge::default(); 512],
+            edges: [Edge::default(); MOST_EDGES],
             loop_count: 0,
-            loops: [Loop::default(); 32],
+            loops: [Loop::default(); MOST_LOOPS],
         }
     }
 }

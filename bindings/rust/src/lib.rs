@@ -22,7 +22,7 @@ mod fields;
 pub mod raw;
 mod refusal;
 
-pub use fields::{Edge, Fields, Function, Loop, Vertex};
+pub use fields::{Edge, Fields, Function, Loop, Vertex, MOST_EDGES, MOST_FUNCTIONS, MOST_LOOPS, MOST_VERTICES};
 pub use refusal::{Refusal, RefusalKind};
 
 /// The numbers of items in a problem.
@@ -108,7 +108,7 @@ pub fn write(file: &[u8], out: &mut [u8]) -> Result<usize, Refusal> {
 pub fn write_fields(fields: &Fields, out: &mut [u8]) -> Result<usize, Refusal> {
     let mut answer = [0; 4];
     let places: *const Fields = fields;
-    // SAFETY: `Fields` is laid out as its 1,445 numbers; it, `out` and `answer` are valid for the call; what is written to is borrowed
+    // SAFETY: `Fields` is laid out as its numbers, in order; it, `out` and `answer` are valid for the call; what is written to is borrowed
     // for it alone.
     let number = unsafe { raw::examiner_write_fields(places.cast(), out.as_mut_ptr(), out.len(), answer.as_mut_ptr()) };
     Ok(judge(number, answer)?[0] as usize)

@@ -1,7 +1,7 @@
 //! The exports as `include/examiner.h` declares them.
 //!
 //! Each returns 0, or the number of a refusal with its place in `answer[0]`. A slice is a pointer and a length; `answer` has 4 places,
-//! `held` 32 and `fields` 1,445. Pointers are aligned, not null (a slice of length 0 apart), and do not overlap where one of them is
+//! `held` 32 and `fields` EXAMINER_FIELDS. Pointers are aligned, not null (a slice of length 0 apart), and do not overlap where one of them is
 //! written to.
 
 extern "C" {
