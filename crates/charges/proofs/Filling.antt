@@ -20,15 +20,15 @@ use Rattle.charges.specs.Tests.{Tallied, chargeAt, chargeLimit, Charged}
 use Rattle.charges.proofs.Sizes.{visit-high}
 
 -- The numbers below i stand in the table as they should.
-pub record FilledBelow (value : ℕ → ℕ) (i : ℕ) (xs : List ℕ) : Type 0 where
+pub record ValuesBelow (value : ℕ → ℕ) (i : ℕ) (xs : List ℕ) : Type 0 where
   pub long : length xs ≡ places.mostVertices
   pub item : (k : ℕ) → k < i → getD xs k 0 ≡ value k
 
 module _ {value : ℕ → ℕ} {xs : List ℕ} where
-  pub fill-start : length xs ≡ places.mostVertices → FilledBelow value 0 xs
+  pub fill-start : length xs ≡ places.mostVertices → ValuesBelow value 0 xs
   fill-start long = record { long = long; item = below-none _ }
 
-  pub fill-more : {i x : ℕ} → FilledBelow value i xs → i < places.mostVertices → x ≡ value i → FilledBelow value (i + 1) (set xs i x)
+  pub fill-more : {i x : ℕ} → ValuesBelow value i xs → i < places.mostVertices → x ≡ value i → ValuesBelow value (i + 1) (set xs i x)
   fill-more {i} {x} filled below e =
       record {
         long = length-set xs i x ∙ filled .long;
@@ -39,7 +39,7 @@ module _ {value : ℕ → ℕ} {xs : List ℕ} where
 pub record Tallying (n : ℕ) (test : ℕ → Bool) (i : ℕ) (flags : List ℕ) (tally : ℕ) : Type 0 where
   pub room : n ≤ places.mostVertices
   pub upto : Upto (λ k. howMany k test) n i tally
-  pub filled : FilledBelow (λ v. cond (test v) 1 0) i flags
+  pub filled : ValuesBelow (λ v. cond (test v) 1 0) i flags
 
 module _ (n : ℕ) (test : ℕ → Bool) {flags : List ℕ} where
   pub tally-start : n ≤ places.mostVertices → length flags ≡ places.mostVertices → Tallying n test 0 flags 0
@@ -75,7 +75,7 @@ module _ {n : ℕ} {test : ℕ → Bool} {i : ℕ} {flags : List ℕ} {tally : �
 
 -- Visit charges, when all are there.
 module _ (l : List ℕ) (checked : Checked l) (contested : ℕ → Bool) {i : ℕ} {charge : List ℕ} where
-  pub all-charged : FilledBelow (chargeAt (problemOf l) contested) i charge → places.mostVertices ≤ i → Charged (problemOf l) contested charge
+  pub all-charged : ValuesBelow (chargeAt (problemOf l) contested) i charge → places.mostVertices ≤ i → Charged (problemOf l) contested charge
   unfolding chargeAt
   all-charged filled past = record { long = filled .long; charged = charged; spare = spare; small = small }
     where

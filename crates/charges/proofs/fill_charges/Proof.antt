@@ -5,12 +5,12 @@ use borrow.Author.Needs.{needs}
 use Rattle.model.specs.Numbers.{problemOf}
 use Rattle.model.specs.Places as places
 use Rattle.charges.specs.Tests.{flagged, chargeAt}
-use Rattle.charges.proofs.Filling.{FilledBelow, fill-start, fill-more, all-charged}
+use Rattle.charges.proofs.Filling.{ValuesBelow, fill-start, fill-more, all-charged}
 use Rattle.charges.proofs.fill_charges.Statement.{statement}
 use Rattle.charges.proofs.fill_charges.Tie as tie
 
 abbrev Inv-loop : tie.InvT-loop
-Inv-loop l flags charge₀ v₀ charge v = FilledBelow (chargeAt (problemOf l) (flagged flags)) v charge
+Inv-loop l flags charge₀ v₀ charge v = ValuesBelow (chargeAt (problemOf l) (flagged flags)) v charge
 
 abbrev μ-loop : tie.MeasureT-loop
 μ-loop l flags charge₀ v₀ charge v = places.mostVertices - v
