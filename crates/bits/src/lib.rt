@@ -1,6 +1,6 @@
 // Words as sets, their members the bits that are set. Laws of the members after `|`, `&`, `^`, `<<` and `>>` stand in proofs/.
 ghost use mathlib.Core.Path.{_≡_};
-ghost use mathlib.Core.Logic.{_↔_};
+ghost use mathlib.Core.Logic.{_⊎_, _↔_};
 ghost use Prim.Native.Nat.{ℕ, _≤_, _<_};
 ghost use lib.ListN.{length};
 ghost use Rattle.model.specs.Results.{Member};
@@ -21,6 +21,25 @@ pub fn without(w: u32, g: usize) -> u32
 {
     let only = 1u32 << g;
     (w | only) ^ only
+}
+
+// The members of w, and g; none if g is f.
+pub fn brought(w: u32, f: u32, g: u32) -> u32
+    requires { ⌜ g < 32 ⌝ }
+    ensures { λ r. ⌜ ((b : ℕ) → Member r b ↔ ((g ≡ f → ⊥) × ((b ≡ g) ⊎ Member w b))) ⌝ }
+{
+    if f == g {
+        return 0;
+    }
+    w | (1u32 << g)
+}
+
+// The members of w but those of `rivals`, and g.
+pub fn renewed(w: u32, rivals: u32, g: usize) -> u32
+    requires { ⌜ g < 32 ⌝ }
+    ensures { λ r. ⌜ ((b : ℕ) → Member r b ↔ ((b ≡ g) ⊎ ((Member rivals b → ⊥) × Member w b))) ⌝ }
+{
+    ((w | rivals) ^ rivals) | (1u32 << g)
 }
 
 // The numbers below n.

@@ -1,6 +1,6 @@
 -- What pricing computes is Bound's result: the tables tell contested and cold, the greatest charges are the visit charges', and no lawful walk runs longer.
 use Prim.Native.Nat.{ℕ, _+_, _≤_, _<_}
-use mathlib.Core.Path.{_≡_, sym, _∙_, ap}
+use mathlib.Core.Path.{_≡_, refl, sym, _∙_, ap}
 use mathlib.Core.List.{List, _∷_}
 use mathlib.Core.Bool.{Bool}
 use native.Mathlib.Omega.{arith}
@@ -12,10 +12,10 @@ use Rattle.model.specs.Walks.{lastVertex, Lawful, Greatest}
 use Rattle.model.specs.Layouts.{needOf}
 use Rattle.model.specs.Charges.{Told, visitCharge, firstLoads, charges}
 use Rattle.model.specs.Results.{boundLimit, BoundIs, PastTheLimit}
-use Rattle.model.proofs.Cases.{by-order}
+use Rattle.model.proofs.Cases.{by-order, by-less}
 use Rattle.sound.proofs.Sound.{cycles-covered}
 use Rattle.reach.specs.Fresh.{FreshTable}
-use Rattle.held.specs.Rivals.{RivalTable}
+use Rattle.rivals.specs.Rivals.{RivalTable}
 use Rattle.held.specs.Flow.{HeldTable}
 use Rattle.bits.specs.Tests.{has}
 use Rattle.charges.specs.Tests.{contestedBy, flagged, Tallied, Charged, ColdWord, LoadedFirst}
@@ -23,6 +23,8 @@ use Rattle.charges.proofs.Flags.{charged-told}
 use Rattle.charges.proofs.Told.{walk-function, charges-table, told-by-tables}
 use Rattle.stays.specs.Tables.{cap, byVertex}
 use Rattle.iterations.specs.Greatest.{GreatestCapped}
+use Rattle.totals.specs.Totals.{total, withTotal, totalled}
+use Rattle.bound.specs.Priced.{Priced}
 
 -- The tables that pricing fills, and the numbers that it finds by them.
 pub record Computed (l layout : List ℕ) (tally : ℕ) (first greatest : Cycles) : Type 0 where
@@ -68,10 +70,19 @@ module _ {l layout : List ℕ} {tally : ℕ} {first greatest : Cycles} (found : 
         reached = let (h, lawful, is) = g .reached in (h, lawful, sym (same h lawful) ∙ is);
       }
 
-  module _ {bound : Cycles} (sum : bound .0 ≡ greatest .0 + first .0) where
-    pub priced : bound .0 ≤ boundLimit → {need : Bytes} → need .0 ≡ needOf (problemOf l) layout →
-        BoundIs (problemOf l) layout (record { need = need; contested = tally; first = first; bound = bound })
-    priced within need-is =
+  past-by : (h : List ℕ) → Lawful (problemOf l) h → boundLimit < visits (lastVertex (problemOf l) ∷ h) + firstLoads (problemOf l) cold → PastTheLimit (problemOf l) layout
+  past-by h lawful over = record { contested = contested; cold = cold; told = told; past = h; lawful = lawful; over = over }
+
+  past : boundLimit < total first greatest → PastTheLimit (problemOf l) layout
+  past over =
+      let loads = found .loaded .loads-are in
+      by-order (greatest .0) cap
+      (λ low. let (h, lawful, is) = exact low .reached in past-by h lawful (omega arith))
+      (λ reaches. let (h, lawful, most) = found .greatest-is .at reaches in past-by h lawful (omega (arith, same h lawful)))
+
+  module _ (need : Bytes) (need-is : need .0 ≡ needOf (problemOf l) layout) where
+    bounded : total first greatest ≤ boundLimit → BoundIs (problemOf l) layout (withTotal need tally first greatest)
+    bounded within =
         let g = exact (omega arith) in
         let loads = found .loaded .loads-are in
         record {
@@ -83,7 +94,7 @@ module _ {l layout : List ℕ} {tally : ℕ} {first greatest : Cycles} (found : 
           first-is = loads;
           greatest = greatest .0;
           greatest-is = g;
-          bound-is = sum ∙ ap (λ (x : ℕ). greatest .0 + x) loads;
+          bound-is = ap (λ (x : ℕ). greatest .0 + x) loads;
           within-limit = within;
           covers = λ h lawful.
               omega (
@@ -93,12 +104,6 @@ module _ {l layout : List ℕ} {tally : ℕ} {first greatest : Cycles} (found : 
               );
         }
 
-    past-by : (h : List ℕ) → Lawful (problemOf l) h → boundLimit < visits (lastVertex (problemOf l) ∷ h) + firstLoads (problemOf l) cold → PastTheLimit (problemOf l) layout
-    past-by h lawful over = record { contested = contested; cold = cold; told = told; past = h; lawful = lawful; over = over }
-
-    pub past : boundLimit < bound .0 → PastTheLimit (problemOf l) layout
-    past over =
-        let loads = found .loaded .loads-are in
-        by-order (greatest .0) cap
-        (λ low. let (h, lawful, is) = exact low .reached in past-by h lawful (omega arith))
-        (λ reaches. let (h, lawful, most) = found .greatest-is .at reaches in past-by h lawful (omega (arith, same h lawful)))
+    pub priced : Priced (problemOf l) layout (totalled need tally first greatest)
+    priced =
+        by-less (Priced (problemOf l) layout) boundLimit (total first greatest) (λ over. (refl, past over)) bounded

@@ -1,21 +1,17 @@
 // Bound: the largest sum of visit charges over all lawful walks, plus the first loads.
 use layout::LayoutAnswer;
-use model::Bound;
 use model::BoundAnswer;
 use model::Bytes;
 use model::Numbers;
 use model::Problem;
-use model::Refusal;
 use model::Verdict;
-use model::limits;
 use model::places;
-use model::units;
 ghost use mathlib.Core.Path.{_≡_};
 ghost use Rattle.model.specs.Numbers.{problemOf};
 ghost use Rattle.model.specs.Layouts.{needOf};
 ghost use Rattle.model.specs.Operations.{Checked};
 ghost use Rattle.model.specs.Results.{BoundSays};
-ghost use Rattle.held.specs.Rivals.{KnownRegions};
+ghost use Rattle.rivals.specs.Rivals.{KnownRegions};
 ghost use Rattle.bound.specs.Priced.{Priced};
 
 // What a layout that fits costs: the part of Bound after the checks.
@@ -24,7 +20,7 @@ pub fn price(l: &Numbers, layout: &[u8], need: Bytes) -> BoundAnswer
     ensures { λ r. ⌜ Priced (problemOf (now (l .entry))) (now (layout .entry)) r ⌝ }
 {
     let mut rivals = [0u32; places::MOST_FUNCTIONS];
-    held::rivals(l, layout, &mut rivals);
+    rivals::fill_rivals(l, layout, &mut rivals);
     let mut held = [0u32; places::MOST_VERTICES];
     held::may_hold(l, &rivals, &mut held);
     let mut fresh = [0u32; places::MOST_VERTICES];
@@ -36,16 +32,7 @@ pub fn price(l: &Numbers, layout: &[u8], need: Bytes) -> BoundAnswer
     let cold = charges::cold_functions(l, &flags, &fresh);
     let first = charges::first_loads(l, cold);
     let greatest = iterations::greatest_charges(l, &charge);
-    let bound = units::sum_of_cycles(greatest, first);
-    if limits::MOST_BOUND < bound.0 {
-        return BoundAnswer::Refused(Refusal::BoundTooLarge(0));
-    }
-    BoundAnswer::Bounded(Bound {
-        need: need,
-        contested: contested,
-        first: first,
-        bound: bound,
-    })
+    totals::answer_of(need, contested, first, greatest)
 }
 
 // Bound on checked numbers: the layout, and its price.

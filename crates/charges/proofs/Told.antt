@@ -24,7 +24,7 @@ use Rattle.sound.specs.Decide.{EarlyVertex}
 use Rattle.sound.proofs.Held.{contested-held}
 use Rattle.sound.proofs.Decide.{told}
 use Rattle.reach.specs.Fresh.{FreshTable}
-use Rattle.held.specs.Rivals.{RivalTable}
+use Rattle.rivals.specs.Rivals.{RivalTable}
 use Rattle.held.specs.Flow.{HeldTable}
 use Rattle.bits.proofs.Members.{common}
 use Rattle.held.proofs.Flow.{held-known}

@@ -1,11 +1,9 @@
 // The library for C and Rust callers: an operation an export. Each answers 0, or the refusal's number with its place in answer[0].
-use model::Numbers;
 use model::Verdict;
 use model::limits;
 use model::places;
 use outcomes::Answer;
 ghost use mathlib.Core.Path.{_≡_};
-ghost use mathlib.Core.List.{_∷_};
 ghost use lib.ListN.{length};
 ghost use Rattle.model.specs.Operations.{writtenBuffer};
 ghost use Rattle.outcomes.specs.Outcomes.{status, answerAfter, Right};
@@ -37,22 +35,8 @@ pub extern "C" fn examiner_write(file: &[u8], out: &mut [u8], answer: &mut Answe
     let Verdict::Accepted = verdict else {
         return outcomes::refuse(model::refusal_in(verdict), answer);
     };
-    let problem = numbers::problem_of(&numbers);
+    let problem = records::problem_of(&numbers);
     outcomes::tell_written(file::write(problem, out), answer)
-}
-
-// A problem's numbers: the edition, which is 1, and then the fields.
-fn with_edition(fields: [u32; places::FIELD_COUNT]) -> Numbers
-    ensures { λ r. ⌜ r ≡ 1 ∷ fields ⌝ }
-{
-    let mut numbers = [0u64; places::END];
-    numbers[0] = 1;
-    let mut i: usize = 0;
-    while i < places::FIELD_COUNT {
-        numbers[i + 1] = fields[i] as u64;
-        i += 1;
-    }
-    numbers
 }
 
 // **Write** of any record, lawful or not, given as its numbers without the edition: the bytes written, and the file in `out`.
@@ -66,8 +50,8 @@ pub extern "C" fn examiner_write_fields(
     ensures { λ r. ⌜ now (answer .exit) ≡ answerAfter (fieldsOutcome (now (fields .entry)) (length (now (out .entry)))) (now (answer .entry)) ⌝ }
     ensures { λ r. ⌜ now (out .exit) ≡ writtenBuffer (fieldsProblem (now (fields .entry))) (now (out .entry)) ⌝ }
 {
-    let numbers = with_edition(*fields);
-    let problem = numbers::problem_of(&numbers);
+    let numbers = numbers::with_edition(*fields);
+    let problem = records::problem_of(&numbers);
     outcomes::tell_written(file::write(problem, out), answer)
 }
 

@@ -10,7 +10,7 @@ use Rattle.model.specs.Graph.{loopsOf}
 use Rattle.model.specs.Walks.{start, Within, lastVertex, Lawful, Greatest}
 use Rattle.model.specs.Verdicts.{pastBound}
 use Rattle.model.proofs.Cases.{and-left, and-right}
-use Rattle.walk.proofs.Edges.{stays-within, within-stays}
+use Rattle.steps.proofs.Edges.{stays-within, within-stays}
 use Rattle.examples.specs.Tests.{everyFrom, steps, greatestIs}
 use Rattle.examples.proofs.Passed.{each}
 use Rattle.examples.proofs.Search.{Free, Found, found, every}

@@ -49,7 +49,7 @@ pub fn read(bytes: &[u8]) -> ReadAnswer
     let Verdict::Accepted = verdict else {
         return ReadAnswer::Refused(model::refusal_in(verdict));
     };
-    ReadAnswer::Accepted(numbers::problem_of(&numbers))
+    ReadAnswer::Accepted(records::problem_of(&numbers))
 }
 
 // A problem's own checks, on its numbers: the length of its file, or the first refusal of 3, 4 and 6 to 9.

@@ -62,5 +62,5 @@ pub fn judge(l: &Numbers) -> Verdict
     let Verdict::Accepted = vertices else {
         return vertices;
     };
-    judge_lent(numbers::loops_of(l), lookup::loop_count(l), l)
+    judge_lent(records::loops_of(l), lookup::loop_count(l), l)
 }

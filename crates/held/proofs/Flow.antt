@@ -27,7 +27,7 @@ use Rattle.flow.specs.Starts.{from, to}
 use Rattle.flow.proofs.Edges.{is-edge, by-number}
 use Rattle.flow.proofs.Reached.{starts}
 use Rattle.flow.proofs.Visits.{Laws, Visiting, begun}
-use Rattle.held.specs.Rivals.{RivalTable}
+use Rattle.rivals.specs.Rivals.{RivalTable}
 use Rattle.held.specs.Flow.{Shown, heldFlow, HeldTable}
 use Rattle.model.specs.Places as places
 

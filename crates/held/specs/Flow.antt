@@ -12,7 +12,7 @@ use Rattle.model.specs.Results.{Member}
 use Rattle.sound.specs.Held.{Holds}
 use Rattle.bits.specs.Words.{Has}
 use Rattle.flow.specs.Rounds.{Flow}
-use Rattle.held.specs.Rivals.{RivalTable}
+use Rattle.rivals.specs.Rivals.{RivalTable}
 use Rattle.model.specs.Places as places
 
 module _ (p : Problem) (rivals : List ℕ) where

@@ -1,2 +1,1 @@
-pub mod Rivals
 pub mod Flow

@@ -3,61 +3,19 @@
 use flow::Begins;
 use flow::Marks;
 use model::Numbers;
-use model::limits;
 use model::places;
 ghost use mathlib.Core.Path.{_≡_};
-ghost use mathlib.Core.Logic.{_⊎_, _↔_};
-ghost use Prim.Native.Nat.{ℕ, _<_};
+ghost use Prim.Native.Nat.{_<_};
 ghost use lib.ListN.{length};
 ghost use Rattle.model.specs.Numbers.{problemOf};
 ghost use Rattle.model.specs.Operations.{Checked};
-ghost use Rattle.model.specs.Results.{Member};
 ghost use Rattle.bits.specs.Words.{Sound};
 ghost use Rattle.flow.specs.Rounds.{Underway, Visited, Swept, Closed};
-ghost use Rattle.held.specs.Rivals.{KnownRegions, Members, RivalTable};
 ghost use Rattle.held.specs.Flow.{Shown, heldFlow, HeldTable};
 ghost use Rattle.model.specs.Places as places;
 
-// The functions of each region.
-fn members_of(l: &Numbers, layout: &[u8], members: &mut [u32; limits::MOST_REGIONS])
-    requires { ⌜ Checked (now l) ⌝ ∗ ⌜ KnownRegions (problemOf (now l)) (now layout) ⌝ }
-    ensures { λ _. ⌜ Members (now (layout .entry)) (problemOf (now (l .entry)) .«function_count») (now (members .exit)) ⌝ }
-{
-    *members = [0u32; limits::MOST_REGIONS];
-    let count = lookup::function_count(l);
-    let mut f: usize = 0;
-    while f < count {
-        let region = layout::region_of(layout, f);
-        members[region] = members[region] | (1u32 << f);
-        f += 1;
-    }
-}
-
-// For each function the others of its region.
-pub fn rivals(l: &Numbers, layout: &[u8], rivals: &mut [u32; places::MOST_FUNCTIONS])
-    requires { ⌜ Checked (now l) ⌝ ∗ ⌜ KnownRegions (problemOf (now l)) (now layout) ⌝ ∗ ⌜ length (now rivals) ≡ places.mostFunctions ⌝ }
-    ensures { λ _. ⌜ RivalTable (problemOf (now (l .entry))) (now (layout .entry)) (now (rivals .exit)) ⌝ }
-{
-    let mut members = [0u32; limits::MOST_REGIONS];
-    members_of(l, layout, &mut members);
-    let count = lookup::function_count(l);
-    let mut f: usize = 0;
-    while f < count {
-        let region = layout::region_of(layout, f);
-        rivals[f] = bits::without(members[region], f);
-        f += 1;
-    }
-}
-
-// After a visit to a vertex of g: g, and the members of `word` that are no rivals of g.
-fn renewed(word: u32, rivals: u32, g: usize) -> u32
-    requires { ⌜ g < places.mostFunctions ⌝ }
-    ensures { λ r. ⌜ ((b : ℕ) → Member r b ↔ ((b ≡ g) ⊎ ((Member rivals b → ⊥) × Member word b))) ⌝ }
-{
-    ((word | rivals) ^ rivals) | (1u32 << g)
-}
-
-// If u is marked, what its word is after a visit to u goes on over its edges, and the ends that gain are marked. Whether any did.
+// If u is marked, what its word is after a visit to u (the visit's function, and what is no rival of it) goes on over its edges, and the ends that gain are
+// marked. Whether any did.
 fn visit_held(
     l: &Numbers,
     starts: &Begins,
@@ -74,7 +32,7 @@ fn visit_held(
     }
     marks[u] = false;
     let g = lookup::function_of(l, u);
-    let add = renewed(held[u], rivals[g], g);
+    let add = bits::renewed(held[u], rivals[g], g);
     let last = starts[u + 1];
     let mut changed = false;
     let mut i = starts[u];

@@ -2,3 +2,4 @@ pub mod Cases
 pub mod Lists
 pub mod Search
 pub mod Answers
+pub mod Filling

@@ -1,43 +1,17 @@
--- A problem put together from its four lists is the problem of the numbers, and pieces stored in file order are the numbers of the problem.
+-- Pieces stored in file order are the numbers of the problem.
 use Prim.Native.Nat.{ℕ}
 use mathlib.Core.Path.{_≡_, sym, ap, _∙_}
 use mathlib.Core.List.{List}
 use native.Mathlib.Omega.{arith}
 use lib.Seq.{sets}
-use lib.ListN.{getD, set, replicate, length-replicate}
-use Rattle.model.specs.declared.Function.{Function}
-use Rattle.model.specs.declared.Vertex.{Vertex}
-use Rattle.model.specs.declared.Edge.{Edge}
-use Rattle.model.specs.declared.Loop.{Loop}
+use lib.ListN.{set, replicate, length-replicate}
 use Rattle.model.specs.declared.Problem.{Problem}
-use Rattle.model.specs.Zero.{bytes}
-use Rattle.model.specs.Numbers.{table, functionAt, vertexAt, edgeAt, loopAt, problemOf, numbersOf, Sized, functionNumbers, vertexNumbers, edgeNumbers, loopNumbers}
+use Rattle.model.specs.Numbers.{numbersOf, Sized, functionNumbers, vertexNumbers, edgeNumbers, loopNumbers}
 use Rattle.numbers.specs.Numbered.{Numbered, Stored}
 use Rattle.numbers.proofs.Places.{stored-behind, sets-over}
 use Rattle.numbers.proofs.Parts.{functionPart, vertexPart, edgePart, loopPart, in-parts, Lengths, lengths}
 use Rattle.numbers.proofs.Inverse.{numbers-length}
 use Rattle.model.specs.Places as places
-
-module _ (l : List ℕ) where
-  abbrev pub withLists : List Function → List Vertex → List Edge → List Loop → Problem
-  withLists fs vs es ls =
-      record {
-        scratchpad = bytes (getD l places.scratchpad 0);
-        «function_count» = getD l places.functionCount 0;
-        functions = fs;
-        «vertex_count» = getD l places.vertexCount 0;
-        vertices = vs;
-        «edge_count» = getD l places.edgeCount 0;
-        edges = es;
-        «loop_count» = getD l places.loopCount 0;
-        loops = ls;
-      }
-
-  pub assembled : (fs : List Function) (vs : List Vertex) (es : List Edge) (ls : List Loop) →
-      fs ≡ table places.mostFunctions (functionAt l) → vs ≡ table places.mostVertices (vertexAt l) → es ≡ table places.mostEdges (edgeAt l) → ls ≡ table places.mostLoops (loopAt l) →
-      withLists fs vs es ls ≡ problemOf l
-  unfolding problemOf
-  assembled fs vs es ls f v e o = λ i. withLists (f i) (v i) (e i) (o i)
 
 -- All places zero: where the stores begin.
 abbrev blank : List ℕ

@@ -1,6 +1,4 @@
-// A problem as its numbers at fixed places in file order, and back.
-use model::Bytes;
-use model::Cycles;
+// A problem's numbers at fixed places in file order, from its record and from its fields.
 use model::Edge;
 use model::Function;
 use model::Loop;
@@ -9,102 +7,10 @@ use model::Problem;
 use model::Vertex;
 use model::places;
 ghost use mathlib.Core.Path.{_≡_};
+ghost use mathlib.Core.List.{_∷_};
 ghost use Rattle.model.specs.Places as spot;
-ghost use Rattle.model.specs.Numbers.{table, functionAt, vertexAt, edgeAt, loopAt, problemOf, functionNumbers, vertexNumbers, edgeNumbers, loopNumbers};
+ghost use Rattle.model.specs.Numbers.{functionNumbers, vertexNumbers, edgeNumbers, loopNumbers};
 ghost use Rattle.numbers.specs.Numbered.{Numbered, Stored};
-
-// Each list read from its places, item by item.
-fn functions_of(l: &Numbers) -> [Function; places::MOST_FUNCTIONS]
-    ensures { λ r. ⌜ r ≡ table spot.mostFunctions (functionAt (now (l .entry))) ⌝ }
-{
-    let mut out = [Function {
-        size: Bytes(0),
-        load: Cycles(0),
-    }; places::MOST_FUNCTIONS];
-    let mut i: usize = 0;
-    while i < places::MOST_FUNCTIONS {
-        out[i] = Function {
-            size: Bytes(l[places::SIZE + places::FUNCTION_WIDTH * i]),
-            load: Cycles(l[places::LOAD + places::FUNCTION_WIDTH * i]),
-        };
-        i += 1;
-    }
-    out
-}
-
-fn vertices_of(l: &Numbers) -> [Vertex; places::MOST_VERTICES]
-    ensures { λ r. ⌜ r ≡ table spot.mostVertices (vertexAt (now (l .entry))) ⌝ }
-{
-    let mut out = [Vertex {
-        function: 0,
-        cost: Cycles(0),
-    }; places::MOST_VERTICES];
-    let mut i: usize = 0;
-    while i < places::MOST_VERTICES {
-        out[i] = Vertex {
-            function: l[places::FUNCTION + places::VERTEX_WIDTH * i] as usize,
-            cost: Cycles(l[places::COST + places::VERTEX_WIDTH * i]),
-        };
-        i += 1;
-    }
-    out
-}
-
-fn edges_of(l: &Numbers) -> [Edge; places::MOST_EDGES]
-    ensures { λ r. ⌜ r ≡ table spot.mostEdges (edgeAt (now (l .entry))) ⌝ }
-{
-    let mut out = [Edge { from: 0, to: 0 }; places::MOST_EDGES];
-    let mut i: usize = 0;
-    while i < places::MOST_EDGES {
-        out[i] = Edge {
-            from: l[places::FROM + places::EDGE_WIDTH * i] as usize,
-            to: l[places::TO + places::EDGE_WIDTH * i] as usize,
-        };
-        i += 1;
-    }
-    out
-}
-
-pub fn loops_of(l: &Numbers) -> [Loop; places::MOST_LOOPS]
-    ensures { λ r. ⌜ r ≡ table spot.mostLoops (loopAt (now (l .entry))) ⌝ }
-{
-    let mut out = [Loop {
-        header: 0,
-        last: 0,
-        bound: 0,
-    }; places::MOST_LOOPS];
-    let mut i: usize = 0;
-    while i < places::MOST_LOOPS {
-        out[i] = Loop {
-            header: l[places::HEADER + places::LOOP_WIDTH * i] as usize,
-            last: l[places::LAST + places::LOOP_WIDTH * i] as usize,
-            bound: l[places::BOUND + places::LOOP_WIDTH * i],
-        };
-        i += 1;
-    }
-    out
-}
-
-// The problem that the numbers at the places say.
-pub fn problem_of(l: &Numbers) -> Problem
-    ensures { λ r. ⌜ r ≡ problemOf (now (l .entry)) ⌝ }
-{
-    let functions = functions_of(l);
-    let vertices = vertices_of(l);
-    let edges = edges_of(l);
-    let loops = loops_of(l);
-    Problem {
-        scratchpad: Bytes(l[places::SCRATCHPAD]),
-        function_count: l[places::FUNCTION_COUNT] as usize,
-        functions: functions,
-        vertex_count: l[places::VERTEX_COUNT] as usize,
-        vertices: vertices,
-        edge_count: l[places::EDGE_COUNT] as usize,
-        edges: edges,
-        loop_count: l[places::LOOP_COUNT] as usize,
-        loops: loops,
-    }
-}
 
 // Each list stored at its places, item by item.
 fn put_functions(l: &mut Numbers, functions: [Function; places::MOST_FUNCTIONS])
@@ -176,4 +82,18 @@ pub fn numbers_of(p: Problem) -> Numbers
     let loops = p.loops;
     put_loops(&mut l, loops);
     l
+}
+
+// A problem's numbers: the edition, which is 1, and then the fields.
+pub fn with_edition(fields: [u32; places::FIELD_COUNT]) -> Numbers
+    ensures { λ r. ⌜ r ≡ 1 ∷ fields ⌝ }
+{
+    let mut numbers = [0u64; places::END];
+    numbers[0] = 1;
+    let mut i: usize = 0;
+    while i < places::FIELD_COUNT {
+        numbers[i + 1] = fields[i] as u64;
+        i += 1;
+    }
+    numbers
 }

@@ -4,12 +4,10 @@ use flow::Marks;
 use model::Numbers;
 use model::places;
 ghost use mathlib.Core.Path.{_≡_};
-ghost use mathlib.Core.Logic.{_⊎_, _↔_};
-ghost use Prim.Native.Nat.{ℕ, _<_};
+ghost use Prim.Native.Nat.{_<_};
 ghost use lib.ListN.{length};
 ghost use Rattle.model.specs.Numbers.{problemOf};
 ghost use Rattle.model.specs.Operations.{Checked};
-ghost use Rattle.model.specs.Results.{Member};
 ghost use Rattle.bits.specs.Words.{Step, Sound, Row, RowMember};
 ghost use Rattle.flow.specs.Rounds.{Underway, Visited, Swept, Closed};
 ghost use Rattle.sets.specs.Sets.{setWords, setAt, Leaves, InSet, setFlow, SetTable};
@@ -21,18 +19,7 @@ pub const SET_WORDS: usize = places::MOST_VERTICES * places::MOST_FUNCTIONS;
 // The words of a vertex.
 const ROW_WORDS: u32 = places::MOST_FUNCTIONS as u32;
 
-// What an edge from a vertex of function g brings to the set of f, where w is the vertex's own: the members of w, and g; but nothing if g is f.
-fn brought(w: u32, f: u32, g: u32) -> u32
-    requires { ⌜ g < places.mostFunctions ⌝ }
-    ensures { λ r. ⌜ ((b : ℕ) → Member r b ↔ ((g ≡ f → ⊥) × ((b ≡ g) ⊎ Member w b))) ⌝ }
-{
-    if f == g {
-        return 0;
-    }
-    w | (1u32 << g)
-}
-
-// What edges from u, of function g, bring to each set of their ends.
+// What edges from u, of function g, bring to each set of their ends: to that of f the members of u's own, and g; but nothing if g is f.
 fn leaving(table: &[u32], u: usize, g: u32) -> [u32; places::MOST_FUNCTIONS]
     requires { ⌜ (u < places.mostVertices) × (g < places.mostFunctions) ⌝ ∗ ⌜ length (now table) ≡ setWords ⌝ }
     ensures { λ r. ⌜ Leaves (now (table .entry)) u g places.mostFunctions r ⌝ }
@@ -40,7 +27,7 @@ fn leaving(table: &[u32], u: usize, g: u32) -> [u32; places::MOST_FUNCTIONS]
     let mut row = [0u32; places::MOST_FUNCTIONS];
     let mut f: u32 = 0;
     while f < ROW_WORDS {
-        row[f as usize] = brought(table[places::MOST_FUNCTIONS * u + f as usize], f, g);
+        row[f as usize] = bits::brought(table[places::MOST_FUNCTIONS * u + f as usize], f, g);
         f += 1;
     }
     row

@@ -35,6 +35,6 @@ pub fn mark(input: i32, name: &[u8], path: &[u8]) {
     let verdict = front::read(&buf, n, &mut numbers);
     match verdict {
         Verdict::Refused(refusal) => show::refused(refusal),
-        Verdict::Accepted => mark_layout(numbers::problem_of(&numbers), path),
+        Verdict::Accepted => mark_layout(records::problem_of(&numbers), path),
     }
 }

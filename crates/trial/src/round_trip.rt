@@ -42,7 +42,7 @@ fn read_back(name: &[u8], problem: Problem, file: &[u8]) {
     match verdict {
         Verdict::Refused(refusal) => refused(name, refusal),
         Verdict::Accepted => {
-            let back = numbers::problem_of(&numbers);
+            let back = records::problem_of(&numbers);
             let same = same_numbers(numbers::numbers_of(problem), numbers::numbers_of(back));
             show::read_back(name, file.len() as u64, same);
         }

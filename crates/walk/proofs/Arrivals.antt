@@ -23,8 +23,9 @@ use Rattle.greatest.proofs.Stays.{visits-out, visits-head, visits-body}
 use Rattle.greatest.proofs.Rules.{Rules, held-head, returns, ascends, stays-in}
 use Rattle.greatest.proofs.Graph.{rules}
 use Rattle.greatest.proofs.Checked.{checked-graph, checked-ranges}
-use Rattle.walk.specs.Judging.{start, latest, goesBack, Bounds, Tally, Counters, Arriving, countAfter}
-use Rattle.walk.proofs.Edges.{follows-edge, goes-past, stays-within}
+use Rattle.steps.specs.Steps.{start, latest, goesBack}
+use Rattle.walk.specs.Judging.{Bounds, Tally, Counters, Arriving, countAfter}
+use Rattle.steps.proofs.Edges.{follows-edge, goes-past, stays-within}
 use Rattle.model.specs.Places as places
 use Rattle.model.specs.Limits as limits
 

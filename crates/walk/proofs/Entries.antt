@@ -20,7 +20,8 @@ use Rattle.model.specs.Verdicts.{mayFollow, pastBound, atLast, judgeWalk}
 use Rattle.model.proofs.Cases.{by-bool, by-cond}
 use Rattle.lookup.proofs.Places.{facts, few-vertices}
 use Rattle.greatest.proofs.Checked.{checked-ranges}
-use Rattle.walk.specs.Judging.{start, latest, Known, goesBack, stepOf, Steps, Bounds, Tally, Counters, Arriving, Arrived, countAfter}
+use Rattle.steps.specs.Steps.{start, latest, Known, goesBack, stepOf, Steps}
+use Rattle.walk.specs.Judging.{Bounds, Tally, Counters, Arriving, Arrived, countAfter}
 use Rattle.walk.proofs.Arrivals.{past-it, within-it, counters-on, tally-on}
 use Rattle.model.specs.Places as places
 

@@ -19,7 +19,7 @@ use Rattle.model.specs.Verdicts.{mayFollow, pastBound, atLast, judgeWalk}
 use Rattle.model.proofs.Answers.{refused-not-accepted}
 use Rattle.model.proofs.Cases.{by-bool, true-not-false}
 use Rattle.greatest.proofs.Checked.{checked-ranges}
-use Rattle.walk.proofs.Edges.{follows-edge, edge-follows, stays-within, within-stays}
+use Rattle.steps.proofs.Edges.{follows-edge, edge-follows, stays-within, within-stays}
 use Rattle.walk.proofs.Entries.{entry-good}
 
 -- A history that is a walk within its bounds; the empty one is the start.

@@ -1,5 +1,3 @@
-pub mod Edges
-pub mod Steps
 pub mod Bounds
 pub mod Arrivals
 pub mod Entries

@@ -7,67 +7,13 @@ use model::limits;
 use model::places;
 ghost use mathlib.Core.Path.{_≡_};
 ghost use mathlib.Core.List.{[]};
-ghost use mathlib.Core.Bool.{cond};
-ghost use Prim.Native.Nat.{_+_, _*_, _≤_};
-ghost use lib.ListN.{getD};
-ghost use lib.Dec.{ltb, leb};
-ghost use Rattle.model.specs.Places.{mostVertices};
 ghost use Rattle.model.specs.Numbers.{problemOf};
 ghost use Rattle.model.specs.Operations.{Checked};
 ghost use Rattle.model.specs.Verdicts.{judgeWalk};
-ghost use Rattle.walk.specs.Judging.{start, Steps, Bounds, Arriving, Arrived};
-
-// What stands for the latest vertex before the first entry: no vertex has that number.
-const START: usize = places::MOST_VERTICES;
-
-const START_ROW: usize = places::MOST_VERTICES * START;
-
-const STEP_COUNT: usize = START_ROW + places::MOST_VERTICES;
-
-// The steps, a row a vertex: 0 where there is no edge. A last row is for the start, which leads to vertex 0. So a step is looked up and not searched.
-type StepTable = [u8; STEP_COUNT];
+ghost use Rattle.walk.specs.Judging.{Bounds, Arriving, Arrived};
 
 // A number a vertex.
 type ByVertex = [u64; places::MOST_VERTICES];
-
-// What a step along an edge does to the visits to its end, if that is a header: 2, one more in the same stay; 1, the first of a stay. An edge stays in
-// the loop of its end exactly where its end is not above its start.
-fn step_along(from: usize, to: usize) -> u8
-    ensures { λ r. ⌜ r ≡ cond (leb to from) 2 1 ⌝ }
-{
-    if to <= from {
-        return 2;
-    }
-    1
-}
-
-fn step_table(l: &Numbers) -> StepTable
-    requires { ⌜ Checked (now l) ⌝ }
-    ensures { λ r. ⌜ Steps (problemOf (now (l .entry))) r ⌝ }
-{
-    let mut table = [0u8; STEP_COUNT];
-    table[START_ROW] = 1;
-    let count = lookup::edge_count(l);
-    let mut i: usize = 0;
-    while i < count {
-        let from = lookup::edge_from(l, i);
-        let to = lookup::edge_to(l, i);
-        table[places::MOST_VERTICES * from + to] = step_along(from, to);
-        i += 1;
-    }
-    table
-}
-
-// The step from u to an entry v, 0 where v is no vertex.
-fn step_to(steps: &StepTable, vertices: usize, u: usize, v: usize) -> u8
-    requires { ⌜ vertices ≤ mostVertices ⌝ ∗ ⌜ u ≤ start ⌝ }
-    ensures { λ r. ⌜ r ≡ cond (ltb v vertices) (getD (now (steps .entry)) (mostVertices * u + v) 0) 0 ⌝ }
-{
-    if v < vertices {
-        return steps[places::MOST_VERTICES * u + v];
-    }
-    0
-}
 
 // The bound of the loop whose header a vertex is. For any other vertex the greatest bound stands in.
 fn bound_table(l: &Numbers) -> ByVertex
@@ -104,15 +50,15 @@ pub fn judge(l: &Numbers, walk: &[u32]) -> Verdict
     requires { ⌜ Checked (now l) ⌝ }
     ensures { λ r. ⌜ r ≡ judgeWalk (problemOf (now (l .entry))) [] 0 (now (walk .entry)) ⌝ }
 {
-    let steps = step_table(l);
+    let steps = steps::step_table(l);
     let bounds = bound_table(l);
     let vertices = lookup::vertex_count(l);
     let mut counts = [0u64; places::MOST_VERTICES];
-    let mut u: usize = START;
+    let mut u: usize = steps::START;
     let mut i: usize = 0;
     while i < walk.len() {
         let v = walk[i] as usize;
-        let step = step_to(&steps, vertices, u, v);
+        let step = steps::step_to(&steps, vertices, u, v);
         if step == 0 {
             return Verdict::Refused(Refusal::WrongStep(i as u64));
         }

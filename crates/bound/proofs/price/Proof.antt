@@ -1,16 +1,18 @@
 -- `price` gives Bound's result, or 14, from the tables that it fills.
-use mathlib.Core.Path.{refl}
-use Rattle.bound.proofs.Prices.{Computed, priced, past}
+use mathlib.Core.Path.{sym, subst}
+use Rattle.model.specs.Numbers.{problemOf}
+use Rattle.bound.specs.Priced.{Priced}
+use Rattle.bound.proofs.Prices.{Computed, priced}
 use native.Mathlib.Omega.{arith}
 use borrow.Author.Needs.{needs}
 use Rattle.bound.proofs.price.Statement.{statement}
 use Rattle.bound.proofs.price.Tie as tie
 
 -- From each table back to the one before.
-abbrev start : tie.After-rivals2 → tie.Start
+abbrev start : tie.After-fill-rivals → tie.Start
 start c = c .before .before .before
 
-abbrev rivals : tie.After-may-hold → tie.After-rivals2
+abbrev rivals : tie.After-may-hold → tie.After-fill-rivals
 rivals c = c .before .before .before
 
 abbrev held : tie.After-first-reach → tie.After-may-hold
@@ -46,7 +48,7 @@ computed c =
       flags = _;
       charge = _;
       coldest = _;
-      is-rivals = rivals (held in-fresh) .rivals2 .ensures;
+      is-rivals = rivals (held in-fresh) .fill-rivals .ensures;
       is-held = held in-fresh .may-hold .ensures;
       is-fresh = in-fresh .first-reach .ensures;
       tallied = in-flags .mark-contested .ensures;
@@ -56,8 +58,8 @@ computed c =
       greatest-is = c .greatest-charges .ensures;
     }
 
-rivals-requires : tie.Need-rivals-requires
-rivals-requires c κs = search needs
+fill-rivals-requires : tie.Need-fill-rivals-requires
+fill-rivals-requires c κs = search needs
 
 may-hold-requires : tie.Need-may-hold-requires
 may-hold-requires c κs = search needs
@@ -80,22 +82,19 @@ first-loads-requires c κs = search needs
 greatest-charges-requires : tie.Need-greatest-charges-requires
 greatest-charges-requires c κs = (begun c .pre .0, record { most = λ k. omega (arith, charge (cold c) .fill-charges .ensures .small k) })
 
-sum-of-cycles-requires : tie.Need-sum-of-cycles-requires
-sum-of-cycles-requires c κs = search needs
+answer-of-requires : tie.Need-answer-of-requires
+answer-of-requires c κs = search needs
 
 returns : tie.Need-returns
-returns c = let sum = c .before .before in (refl, past (computed (sum .before)) (sum .sum-of-cycles .ensures) (omega (arith, c .if1 .taken)))
-
-returns-2 : tie.Need-returns-2
-returns-2 c =
-    let sum = c .before .before in
-    priced (computed (sum .before)) (sum .sum-of-cycles .ensures) (omega (arith, c .if1 .left)) (begun (sum .before .before) .pre .1 .0)
+returns c =
+    let from = begun (c .before .before) in
+    subst (Priced (problemOf (from .args .l .now)) (from .args .layout .now)) (sym (c .answer-of .ensures)) (priced (computed (c .before)) _ (from .pre .1 .0))
 
 pub price-spec : {M : Type 1} → statement M
 price-spec =
     tie.close
     (tie.spec
-    rivals-requires
+    fill-rivals-requires
     may-hold-requires
     first-reach-requires
     mark-contested-requires
@@ -103,6 +102,5 @@ price-spec =
     cold-functions-requires
     first-loads-requires
     greatest-charges-requires
-    sum-of-cycles-requires
-    returns
-    returns-2)
+    answer-of-requires
+    returns)

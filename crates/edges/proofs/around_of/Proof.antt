@@ -3,7 +3,7 @@ use Rattle.edges.proofs.Words.{held-none, held-more}
 use borrow.Author.Needs.{needs}
 use Prim.Native.Nat.{_-_}
 use mathlib.Core.Path.{_≡_}
-use Rattle.numbers.proofs.Filling.{FilledTo, filled-none, filled-more, filled-all}
+use Rattle.model.proofs.Filling.{FilledTo, filled-none, filled-more, filled-all}
 use Rattle.edges.specs.Words.{aroundAt, heldOver}
 use Rattle.edges.proofs.around_of.Statement.{statement}
 use Rattle.edges.proofs.around_of.Tie as tie

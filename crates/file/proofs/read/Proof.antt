@@ -69,10 +69,10 @@ use Rattle.model.proofs.refusal_in as refused
 use Rattle.model.proofs.refusal_in.Symbol as refused-def
 use Rattle.model.proofs.refusal_in.Symbol.{name as #refused}
 use Rattle.model.proofs.refusal_in.Met as refused-thm
-use Rattle.numbers.proofs.problem_of as made
-use Rattle.numbers.proofs.problem_of.Symbol as made-def
-use Rattle.numbers.proofs.problem_of.Symbol.{name as #made}
-use Rattle.numbers.proofs.problem_of.Met as made-thm
+use Rattle.records.proofs.problem_of as made
+use Rattle.records.proofs.problem_of.Symbol as made-def
+use Rattle.records.proofs.problem_of.Symbol.{name as #made}
+use Rattle.records.proofs.problem_of.Met as made-thm
 use Rattle.file.specs.Steps.{NumbersRead}
 use Rattle.file.proofs.Stages.{no-problem, whole-problem}
 use Rattle.file.proofs.read_numbers as found
@@ -379,5 +379,5 @@ read-spec 𝓤 H 𝓜 𝓖 𝓡 =
     (tables 𝓤 H 𝓜 𝓡 code.env .C) (tables 𝓤 H 𝓜 𝓡 code.env .Λ) #key code.function (code.unfolded 𝓤 H 𝓜 𝓡)
     (meets 𝓤 H (𝓖 .A) (givenOf 𝓤 H 𝓜 𝓖) (𝓜 .mem) (𝓡 .run) (tablesOf 𝓤 H 𝓜 (tables 𝓤 H 𝓜 𝓡 code.env))
     (cited 𝓤 H (Found 𝓤 H (𝓖 .A) (𝓜 .mem) (𝓡 .run)) 𝓜 𝓡 code.env #found found-def.routine code.calls-file·read-numbers (found-thm.met 𝓤 H 𝓜 𝓖 𝓡))
-    (cited 𝓤 H (Made 𝓤 H (𝓖 .A) (𝓜 .mem) (𝓡 .run)) 𝓜 𝓡 code.env #made made-def.routine code.calls-numbers·problem-of (made-thm.met 𝓤 H 𝓜 𝓖 𝓡))
+    (cited 𝓤 H (Made 𝓤 H (𝓖 .A) (𝓜 .mem) (𝓡 .run)) 𝓜 𝓡 code.env #made made-def.routine code.calls-records·problem-of (made-thm.met 𝓤 H 𝓜 𝓖 𝓡))
     (cited 𝓤 H (Refused 𝓤 H (𝓖 .A) (𝓜 .mem) (𝓡 .run)) 𝓜 𝓡 code.env #refused refused-def.routine code.calls-model·refusal-in (refused-thm.met 𝓤 H 𝓜 𝓖 𝓡)))

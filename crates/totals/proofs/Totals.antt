@@ -1,0 +1,18 @@
+-- A total within the limit is told, and one past it is 14.
+use Prim.Native.Nat.{ℕ, _≤_, _<_}
+use mathlib.Core.Path.{_≡_}
+use borrow.Author.Tests.{lt-ltb, le-ltb}
+use Rattle.model.specs.declared.Bytes.{Bytes}
+use Rattle.model.specs.declared.Cycles.{Cycles}
+use Rattle.model.specs.declared.BoundAnswer.the-variants.{Bounded, Refused}
+use Rattle.model.specs.declared.Refusal.the-variants.{BoundTooLarge}
+use Rattle.model.specs.Results.{boundLimit}
+use Rattle.totals.specs.Totals.{total, totalled}
+
+module _ (need : Bytes) (contested : ℕ) (first greatest bound : Cycles) (sum : bound .0 ≡ total first greatest) where
+  pub past : boundLimit < bound .0 → Refused (BoundTooLarge 0) ≡ totalled need contested first greatest
+  past over = rw (← sum, lt-ltb boundLimit (bound .0) over)
+
+  pub within : bound .0 ≤ boundLimit →
+      Bounded (record { need = need; contested = contested; first = first; bound = bound }) ≡ totalled need contested first greatest
+  within low = rw (← sum, le-ltb boundLimit (bound .0) low)
