@@ -193,13 +193,13 @@ pub fn place_of(refusal: Refusal) -> u64
     }
 }
 
-// The refusal that a verdict holds, where it refuses. No refusal is invented for the other case: it is never met, and the call that stands there never made.
+// The refusal that a verdict holds, where it refuses. No refusal is invented for the other case: it is never met, and a loop without an end stands there.
 pub fn refusal_in(verdict: Verdict) -> Refusal
     requires { ⌜ Refuses verdict ⌝ }
     ensures { λ r. ⌜ verdict ≡ Refused r ⌝ }
 {
-    match verdict {
-        Verdict::Refused(refusal) => refusal,
-        Verdict::Accepted => refusal_in(verdict),
-    }
+    let Verdict::Refused(refusal) = verdict else {
+        loop {}
+    };
+    refusal
 }
