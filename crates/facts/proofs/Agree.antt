@@ -1,5 +1,5 @@
 -- What the judgement of a field looks at: among the numbers before it the two counts that narrow ranges, and the items of its own list.
-use Prim.Native.Nat.{ℕ, _-_, _≤_, _<_}
+use Prim.Native.Nat.{ℕ, _+_, _-_, _≤_, _<_}
 use mathlib.Core.Path.{_≡_, sym, _∙_}
 use mathlib.Core.List.{List, [], _∷_}
 use native.Mathlib.Omega.{arith}
@@ -9,7 +9,7 @@ use lib.Dec.{eqb}
 use borrow.Author.Tests.{eqb-true, eqb-false}
 use Rattle.model.specs.declared.Field.{Field}
 use Rattle.model.specs.Table.{bases, kinds, jumps, counts, base, countOver}
-use Rattle.model.specs.File.{nextField, belowCount, fromHeader, inRange, ascends}
+use Rattle.model.specs.File.{nextField, belowCount, fromHeader, inRange, edgeSpan, loopSpan, ascends}
 use Rattle.model.proofs.Cases.{by-bool}
 use Rattle.fields.specs.Valid.{Valid}
 use Rattle.fields.proofs.Steps.{after-count, after-item}
@@ -49,8 +49,8 @@ alike-below c l m same k s = same k (s .below)
 record Looks (c : Field) : Type 0 where
   count : 0 < countOver (c .row) → Seen c (countOver (c .row))
   header : c .row ≡ rows.last → Seen c (c .place - (places.last - places.header))
-  edge : c .row ≡ rows.to → (c .place ≡ base (c .row) → ⊥) → (j : ℕ) → 0 < j → j ≤ 3 → Seen c (c .place - j)
-  loop : c .row ≡ rows.bound → (c .place ≡ base (c .row) → ⊥) → (j : ℕ) → 0 < j → j ≤ 5 → Seen c (c .place - j)
+  edge : c .row ≡ rows.to → (c .place ≡ base (c .row) → ⊥) → (j : ℕ) → 0 < j → j ≤ places.edgeWidth + edgeSpan → Seen c (c .place - j)
+  loop : c .row ≡ rows.bound → (c .place ≡ base (c .row) → ⊥) → (j : ℕ) → 0 < j → j ≤ places.loopWidth + loopSpan → Seen c (c .place - j)
 
 looks : {c : Field} → Valid c → Looks c
 unfolding bases counts itemBases
@@ -93,10 +93,10 @@ module _ (l m : List ℕ) where
 
     -- The order of a later item looks at the item before it.
     module _ (later : c .place ≡ base (c .row) → ⊥) where
-      edge-agrees : c .row ≡ rows.to → (j : ℕ) → 0 < j → j ≤ 3 → getD l (c .place - j) 0 ≡ getD m (c .place - j) 0
+      edge-agrees : c .row ≡ rows.to → (j : ℕ) → 0 < j → j ≤ places.edgeWidth + edgeSpan → getD l (c .place - j) 0 ≡ getD m (c .place - j) 0
       edge-agrees r j h k = same (c .place - j) (looks f .edge r later j h k)
 
-      loop-agrees : c .row ≡ rows.bound → (j : ℕ) → 0 < j → j ≤ 5 → getD l (c .place - j) 0 ≡ getD m (c .place - j) 0
+      loop-agrees : c .row ≡ rows.bound → (j : ℕ) → 0 < j → j ≤ places.loopWidth + loopSpan → getD l (c .place - j) 0 ≡ getD m (c .place - j) 0
       loop-agrees r j h k = same (c .place - j) (looks f .loop r later j h k)
 
     pub ascends-agrees : getD l (c .place) 0 ≡ getD m (c .place) 0 → ascends l c ≡ ascends m c
@@ -105,10 +105,10 @@ module _ (l m : List ℕ) where
         by-bool (eqb (c .place) (base (c .row))) (λ e. simp e)
         (λ e. by-bool (eqb (c .row) rows.to)
         (λ q. let at = edge-agrees (eqb-false (c .place) (base (c .row)) e) (eqb-true (c .row) rows.to q) in
-        simp (e, q, at 3 (omega arith) (omega arith), at 2 (omega arith) (omega arith), at 1 (omega arith) (omega arith), here))
+        simp (e, q, at (places.edgeWidth + edgeSpan) (omega arith) (omega arith), at places.edgeWidth (omega arith) (omega arith), at edgeSpan (omega arith) (omega arith), here))
         (λ q. by-bool (eqb (c .row) rows.bound)
         (λ r. let at = loop-agrees (eqb-false (c .place) (base (c .row)) e) (eqb-true (c .row) rows.bound r) in
-        simp (e, q, r, at 5 (omega arith) (omega arith), at 2 (omega arith) (omega arith)))
+        simp (e, q, r, at (places.loopWidth + loopSpan) (omega arith) (omega arith), at loopSpan (omega arith) (omega arith)))
         (λ r. simp (e, q, r))))
 
 -- From c to d no place but c's own comes into sight, neither of the two counts nor among the items.

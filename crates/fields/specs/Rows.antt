@@ -12,6 +12,6 @@ columns = 6
 abbrev pub entry : ℕ → List ℕ
 entry row = least row ∷ greatest row ∷ base row ∷ kind row ∷ jump row ∷ countOver row ∷ []
 
--- The fifteen rows, and the end of the file.
+-- The rows, and the end of the file.
 unfoldable pub entries : List (List ℕ)
 entries = table (rows.end + 1) entry
