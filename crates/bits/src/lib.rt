@@ -23,7 +23,7 @@ pub fn without(w: u32, g: usize) -> u32
     (w | only) ^ only
 }
 
-// The members of w, and g; none if g is f.
+// What an edge from a vertex of function g brings to the interference set of f, where w is the vertex's own: the members of w, and g; none if g is f.
 pub fn brought(w: u32, f: u32, g: u32) -> u32
     requires { ⌜ g < 32 ⌝ }
     ensures { λ r. ⌜ ((b : ℕ) → Member r b ↔ ((g ≡ f → ⊥) × ((b ≡ g) ⊎ Member w b))) ⌝ }
@@ -34,7 +34,8 @@ pub fn brought(w: u32, f: u32, g: u32) -> u32
     w | (1u32 << g)
 }
 
-// The members of w but those of `rivals`, and g.
+// What an edge from a vertex of function g brings of what regions may hold, where w is that as a walk arrives at the vertex: the members of w but those of
+// `rivals`, and g.
 pub fn renewed(w: u32, rivals: u32, g: usize) -> u32
     requires { ⌜ g < 32 ⌝ }
     ensures { λ r. ⌜ ((b : ℕ) → Member r b ↔ ((b ≡ g) ⊎ ((Member rivals b → ⊥) × Member w b))) ⌝ }

@@ -11,7 +11,7 @@ use Rattle.model.specs.declared.Field.{Field}
 use Rattle.model.specs.declared.Number.the-variants as number
 use Rattle.model.specs.Spelling.{readNumber}
 use Rattle.model.specs.Table.{kinds}
-use Rattle.model.specs.File.{numberCount, edgeSpan, ascends, itemStart, inRange, readFrom}
+use Rattle.model.specs.File.{edgeSpan, ascends, itemStart, inRange, readFrom}
 use Rattle.spelling.proofs.Laws.{one-byte}
 use Rattle.fields.specs.Valid.{Valid, field}
 use Rattle.fields.proofs.Steps.{ranged-later}

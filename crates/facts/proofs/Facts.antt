@@ -1,10 +1,8 @@
 -- What good numbers satisfy.
-use Prim.Native.Nat.{ℕ, _+_, _*_, _≤_, _<_}
+use Prim.Native.Nat.{ℕ, _+_, _*_}
 use mathlib.Core.Path.{_≡_, refl}
 use mathlib.Core.List.{List}
-use mathlib.Core.Bool.{true}
 use native.Mathlib.Omega.{arith}
-use lib.ListN.{getD}
 use Rattle.model.specs.declared.FieldsAnswer.the-variants.{Done}
 use Rattle.model.specs.Table.{limits, bases, counts}
 use Rattle.model.specs.File.{checkFields}
@@ -15,7 +13,6 @@ use Rattle.facts.proofs.Passed.{in-limits, in-count, not-below-header, 
 use Rattle.facts.proofs.Reach.{passed}
 use Rattle.facts.proofs.Walk as walk
 use Rattle.model.specs.Places as places
-use Rattle.model.specs.Limits as most
 
 module _ (l : List ℕ) (good : GoodNumbers l) where
   pub good-facts : FieldFacts l

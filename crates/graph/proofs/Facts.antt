@@ -10,14 +10,13 @@ use lib.Dec.{leb, ltb, eqb}
 use borrow.Author.Tests.{not-false, ltb-true, ltb-false, leb-false, eqb-true, lt-ltb, le-leb}
 use Rattle.model.specs.declared.Refusal.{Refusal}
 use Rattle.model.specs.declared.Refusal.the-variants.{MissingEdge, WrongLoop, WrongEdge, NoEdgeBack}
-use Rattle.model.specs.declared.Verdict.{Verdict}
-use Rattle.model.specs.declared.Verdict.the-variants.{Accepted, Refused}
+use Rattle.model.specs.declared.Verdict.the-variants.{Accepted}
 use Rattle.model.specs.declared.Edge.{Edge}
 use Rattle.model.specs.declared.Loop.{Loop}
 use Rattle.model.specs.Zero.{zeroEdge, zeroLoop}
 use Rattle.model.specs.Search.{existsBelow}
 use Rattle.model.specs.Graph as graph
-use Rattle.model.specs.Graph.{edge, loop, holds, broken, andThen, graphRules}
+use Rattle.model.specs.Graph.{edge, loop, holds, broken, graphRules}
 use Rattle.model.proofs.Answers.{accepted-both, refused-not-accepted}
 use Rattle.model.proofs.Cases.{by-bool}
 use Rattle.model.proofs.Lists.{mem-getD, index-of}

@@ -6,7 +6,6 @@ use model::Refusal;
 use model::Verdict;
 use model::places;
 use sets::SET_WORDS;
-ghost use mathlib.Core.Path.{_≡_};
 ghost use Prim.Native.Nat.{_+_, _*_, _≤_, _<_};
 ghost use lib.ListN.{length};
 ghost use Rattle.model.specs.Numbers.{problemOf};

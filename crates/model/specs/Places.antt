@@ -27,13 +27,14 @@ edgeWidth = 2
 abbrev pub loopWidth : ℕ
 loopWidth = 3
 
--- The place of each count, and of each of the first item's numbers.
+-- The place of each count, and of each of the first item's numbers. The edition and the scratchpad size stand first.
 abbrev pub edition : ℕ
 edition = 0
 
 abbrev pub scratchpad : ℕ
 scratchpad = edition + 1
 
+-- The number of functions, a function's size and its load cost.
 abbrev pub functionCount : ℕ
 functionCount = scratchpad + 1
 
@@ -43,6 +44,7 @@ size = functionCount + 1
 abbrev pub load : ℕ
 load = size + 1
 
+-- The number of vertices, a vertex's function and its own cost.
 abbrev pub vertexCount : ℕ
 vertexCount = size + functionWidth * mostFunctions
 
@@ -52,6 +54,7 @@ function = vertexCount + 1
 abbrev pub cost : ℕ
 cost = function + 1
 
+-- The number of edges, where an edge comes from and where it goes to.
 abbrev pub edgeCount : ℕ
 edgeCount = function + vertexWidth * mostVertices
 
@@ -61,6 +64,7 @@ from = edgeCount + 1
 abbrev pub to : ℕ
 to = from + 1
 
+-- The number of loops, a loop's header, its last vertex and its bound.
 abbrev pub loopCount : ℕ
 loopCount = from + edgeWidth * mostEdges
 

@@ -1,12 +1,14 @@
 -- The problem file: the rows of the field table, in file order, and the end of the file behind them.
 use Prim.Native.Nat.{ℕ, _+_}
 
+-- The edition and the scratchpad size.
 abbrev pub edition : ℕ
 edition = 0
 
 abbrev pub scratchpad : ℕ
 scratchpad = edition + 1
 
+-- The number of functions, a function's size and its load cost.
 abbrev pub functionCount : ℕ
 functionCount = scratchpad + 1
 
@@ -16,6 +18,7 @@ size = functionCount + 1
 abbrev pub load : ℕ
 load = size + 1
 
+-- The number of vertices, a vertex's function and its own cost.
 abbrev pub vertexCount : ℕ
 vertexCount = load + 1
 
@@ -25,6 +28,7 @@ function = vertexCount + 1
 abbrev pub cost : ℕ
 cost = function + 1
 
+-- The number of edges, where an edge comes from and where it goes to.
 abbrev pub edgeCount : ℕ
 edgeCount = cost + 1
 
@@ -34,6 +38,7 @@ from = edgeCount + 1
 abbrev pub to : ℕ
 to = from + 1
 
+-- The number of loops, a loop's header, its last vertex and its bound.
 abbrev pub loopCount : ℕ
 loopCount = to + 1
 

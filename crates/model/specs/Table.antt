@@ -4,26 +4,26 @@ use mathlib.Core.List.{List, [], _∷_}
 use lib.ListN.{getD}
 use Rattle.model.specs.Places as places
 use Rattle.model.specs.Rows as rows
-use Rattle.model.specs.Limits as most
+use Rattle.model.specs.Limits.{mostBytes, mostCycles, mostVisits}
 
 -- The least and the greatest value of each row. Where a count read earlier narrows a range, `inRange` says so.
 unfoldable pub limits : List ℕ
 limits =
     1 ∷ 1
-    ∷ 1 ∷ most.mostBytes
+    ∷ 1 ∷ mostBytes
     ∷ 1 ∷ places.mostFunctions
-    ∷ 1 ∷ most.mostBytes
-    ∷ 0 ∷ most.mostCycles
+    ∷ 1 ∷ mostBytes
+    ∷ 0 ∷ mostCycles
     ∷ 1 ∷ places.mostVertices
     ∷ 0 ∷ (places.mostFunctions - 1)
-    ∷ 0 ∷ most.mostCycles
+    ∷ 0 ∷ mostCycles
     ∷ 0 ∷ places.mostEdges
     ∷ 0 ∷ (places.mostVertices - 1)
     ∷ 0 ∷ (places.mostVertices - 1)
     ∷ 0 ∷ places.mostLoops
     ∷ 0 ∷ (places.mostVertices - 1)
     ∷ 0 ∷ (places.mostVertices - 1)
-    ∷ 1 ∷ most.mostVisits ∷ []
+    ∷ 1 ∷ mostVisits ∷ []
 
 abbrev pub least : ℕ → ℕ
 least row = getD limits (2 * row) 0

@@ -89,10 +89,10 @@ pub fn with_edition(fields: [u32; places::FIELD_COUNT]) -> Numbers
     ensures { λ r. ⌜ r ≡ 1 ∷ fields ⌝ }
 {
     let mut numbers = [0u64; places::END];
-    numbers[0] = 1;
+    numbers[places::EDITION] = 1;
     let mut i: usize = 0;
     while i < places::FIELD_COUNT {
-        numbers[i + 1] = fields[i] as u64;
+        numbers[i + places::SCRATCHPAD] = fields[i] as u64;
         i += 1;
     }
     numbers

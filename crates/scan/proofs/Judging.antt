@@ -6,14 +6,13 @@ use mathlib.Core.Bool.{true, false}
 use native.Mathlib.Omega.{arith}
 use lib.ListN.{getD}
 use Rattle.model.specs.declared.Field.{Field}
-use Rattle.model.specs.declared.FieldsAnswer.{FieldsAnswer}
 use Rattle.model.specs.declared.FieldsAnswer.the-variants.{Done, Refused}
 use Rattle.model.specs.declared.Refusal.the-variants as refusal
 use Rattle.model.specs.Spelling.{numberSize}
 use Rattle.model.specs.File.{numberCount, firstField, nextField, inRange, ascends, itemStart, checkFrom, checkFields}
 use Rattle.spelling.proofs.Laws.{size-five}
 use Rattle.fields.proofs.Steps.{placed, ranged-later}
-use Rattle.fields.proofs.OneField.{Passed, check-done, check-out, check-disorder, check-on}
+use Rattle.fields.proofs.OneField.{check-done, check-out, check-disorder, check-on}
 use Rattle.edge_runs.specs.Edges.{pastEdges, EdgesChecked}
 use Rattle.scan.proofs.Going.{Reached, reached-first, to-come, reached-next, reached-past, past-to-come}
 use Rattle.model.specs.Places as places

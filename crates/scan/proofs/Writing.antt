@@ -1,6 +1,6 @@
 -- The loop that writes numbers that are judged good: the bytes still to be written complete the file, and what is left to judge is what was to be judged from
 -- the first field.
-use Prim.Native.Nat.{ℕ, zero, suc, _+_, _*_, _-_, _≤_, _<_}
+use Prim.Native.Nat.{ℕ, zero, suc, _+_, _-_, _≤_, _<_}
 use mathlib.Core.Path.{_≡_, refl, sym, ap, _∙_}
 use mathlib.Core.List.{List, _++_}
 use native.Mathlib.Omega.{arith}
@@ -8,7 +8,6 @@ use lib.ListN.{length, getD}
 use lib.Seq.{sets, length-sets}
 use borrow.Author.Tests.{le-leb, lt-leb}
 use Rattle.model.specs.declared.Field.{Field}
-use Rattle.model.specs.declared.FieldsAnswer.{FieldsAnswer}
 use Rattle.model.specs.declared.FieldsAnswer.the-variants.{Done}
 use Rattle.model.specs.Spelling.{numberSize, numberBytes}
 use Rattle.model.specs.File.{numberCount, firstField, nextField, itemStart, checkFrom, checkFields, bytesFrom, fileBytes}

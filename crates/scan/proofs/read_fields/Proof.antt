@@ -1,7 +1,6 @@
 -- `read_fields` reads as `readFrom` does. The invariant: what is left to read from the present field is what was to be read from the first, and the field is valid.
 use Prim.Native.Nat.{ℕ, _+_, _*_, _-_, _<_}
 use mathlib.Core.Path.{_≡_, sym, _∙_}
-use mathlib.Core.List.{List}
 use mathlib.Core.Bool.{true}
 use native.Mathlib.Omega.{arith}
 use borrow.Author.Needs.{needs}

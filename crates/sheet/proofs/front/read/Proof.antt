@@ -2,7 +2,6 @@
 use mathlib.Core.Path.{sym}
 use lib.Seq.{length-take-le}
 use Rattle.sheet.proofs.Fronts.{read-front}
-use borrow.Author.Needs.{needs}
 use Rattle.sheet.proofs.front.read.Statement.{statement}
 use Rattle.sheet.proofs.front.read.Tie as tie
 
