@@ -1,5 +1,5 @@
 -- The checks of Bound and Run through 13: the problem's own, then the layout's.
-use Prim.Native.Nat.{ℕ, _-_, _<_}
+use Prim.Native.Nat.{ℕ, _-_}
 use mathlib.Core.Path.{_≡_, refl, sym, ap, _∙_}
 use mathlib.Core.List.{List}
 use mathlib.Core.Bool.{Bool, false, cond}
@@ -28,6 +28,7 @@ use Rattle.file.proofs.Opened.{judges-problem, checked-problem}
 use Rattle.layout.specs.declared.LayoutAnswer.{LayoutAnswer}
 use Rattle.layout.specs.declared.LayoutAnswer.the-variants.{Fits, Refused}
 use Rattle.layout.specs.Answers.{layoutAnswer, layoutVerdict}
+use Rattle.layout.specs.Regions.{KnownRegions}
 
 module _ (p : Problem) (layout : List ℕ) where
   pub bad-problem : (x : Refusal) → judgeProblem p ≡ verdict.Refused x → judgeBound p layout ≡ verdict.Refused x
@@ -38,7 +39,7 @@ module _ (p : Problem) (layout : List ℕ) where
   unknown f = ltb (mostRegions - 1) (regionOf layout f)
 
   -- Where nothing was refused, every function has one of the regions.
-  pub regions-known : judgeBound p layout ≡ verdict.Accepted → (f : ℕ) → f < p .«function_count» → regionOf layout f < mostRegions
+  pub regions-known : judgeBound p layout ≡ verdict.Accepted → KnownRegions p layout
   unfolding judgeBound judgeLayout
   regions-known e f below =
       let layout-good = accepted-both (judgeProblem p) _ e .1 in

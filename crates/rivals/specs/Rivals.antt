@@ -21,9 +21,5 @@ pub record RivalsBelow (layout : List ℕ) (n m : ℕ) (ws : List ℕ) : Type 0 
   pub member : (f : ℕ) → f < m → (g : ℕ) → Member (getD ws f 0) g ↔ ((f ≡ g → ⊥) × (g < n) × (regionOf layout g ≡ regionOf layout f))
 
 module _ (p : Problem) (layout : List ℕ) where
-  -- Every function has one of the regions.
-  abbrev pub KnownRegions : Type 0
-  KnownRegions = (f : ℕ) → f < p .«function_count» → regionOf layout f < limits.mostRegions
-
   abbrev pub RivalTable : List ℕ → Type 0
   RivalTable ws = RivalsBelow layout (p .«function_count») (p .«function_count») ws

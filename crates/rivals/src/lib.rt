@@ -6,7 +6,8 @@ ghost use mathlib.Core.Path.{_≡_};
 ghost use lib.ListN.{length};
 ghost use Rattle.model.specs.Numbers.{problemOf};
 ghost use Rattle.model.specs.Operations.{Checked};
-ghost use Rattle.rivals.specs.Rivals.{KnownRegions, Members, RivalTable};
+ghost use Rattle.layout.specs.Regions.{KnownRegions};
+ghost use Rattle.rivals.specs.Rivals.{Members, RivalTable};
 ghost use Rattle.model.specs.Places as places;
 
 // The functions of each region.

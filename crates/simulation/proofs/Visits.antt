@@ -26,6 +26,7 @@ use Rattle.simulation.specs.Running.{Places, Costs, Ran, Visiting, Visit
 use Rattle.walk.proofs.Lawful.{entries-known}
 use Rattle.model.specs.Places.{mostFunctions}
 use Rattle.model.specs.Limits as limits
+use Rattle.layout.specs.Regions.{KnownRegions}
 
 -- A visit to v over the definitions, with v's function f and its region r: whether it finds f held, and what it leaves.
 module _ (p : Problem) (layout h : List ℕ) (v f r : ℕ) (fn-is : functionOf p v ≡ f) (region-is : regionOf layout (functionOf p v) ≡ r)
@@ -113,7 +114,7 @@ module _ (l : List ℕ) (checked : Checked l) (layout places costs : List ℕ) (
       (λ e. omega (arith, cost-high l (facts _ checked) v known))
       (λ e. omega (arith, cost-high l (facts _ checked) v known, load-high l (facts _ checked) (functionOf (problemOf l) v) (function-below l (facts _ checked) v known))))
 
-  module _ (inside : (f : ℕ) → f < problemOf l .«function_count» → regionOf layout f < limits.mostRegions) where
+  module _ (inside : KnownRegions (problemOf l) layout) where
     region-few : getD places (2 * v + 1) 0 < limits.mostRegions
     region-few = omega (arith, placed .other v known, inside (functionOf (problemOf l) v) (function-below l (facts _ checked) v known))
 

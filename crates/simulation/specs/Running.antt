@@ -16,6 +16,7 @@ use Rattle.model.specs.Runs.{cycles, loads, heldAfter}
 use Rattle.model.specs.Verdicts.{judgeWalk, walkLimit}
 use Rattle.model.specs.Places.{mostVertices}
 use Rattle.model.specs.Limits as limits
+use Rattle.layout.specs.Regions.{KnownRegions}
 
 -- The state of a run after a history: what Run gives.
 pub record Ran (p : Problem) (layout h held : List ℕ) (run : Run) : Type 0 where
@@ -61,6 +62,6 @@ pub record Visited (places costs before after : List ℕ) (run run′ : Run) (v 
 -- A walk that Run runs: each refusal before the result is ruled out.
 pub record Runnable (l layout walk : List ℕ) : Type 0 where
   pub checked : Checked l
-  pub regions : (f : ℕ) → f < problemOf l .«function_count» → regionOf layout f < limits.mostRegions
+  pub regions : KnownRegions (problemOf l) layout
   pub short : length walk ≤ walkLimit
   pub accepted : judgeWalk (problemOf l) [] 0 walk ≡ Accepted
