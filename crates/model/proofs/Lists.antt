@@ -60,3 +60,11 @@ module _ {A : Type 0} where
   sets-append (x ∷ xs) ys l i =
       let e : suc i + length xs ≡ i + suc (length xs) = omega arith in
       sets-append xs ys (set l i x) (suc i) ∙ (rw e)
+
+-- Two lists stored, the second behind the first.
+pub stored-behind : (l₀ l l′ : List ℕ) (i j : ℕ) (xs ys : List ℕ) → l ≡ sets l₀ i xs → i + length xs ≡ j → l′ ≡ sets l j ys → l′ ≡ sets l₀ i (xs ++ ys)
+stored-behind l₀ l l′ i j xs ys e place e′ =
+    e′
+    ∙ ap (λ (m : List ℕ). sets m j ys) e
+    ∙ ap (λ (k : ℕ). sets (sets l₀ i xs) k ys) (sym place)
+    ∙ sym (sets-append xs ys l₀ i)

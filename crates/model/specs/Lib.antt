@@ -18,3 +18,5 @@ pub mod Runs
 pub mod Operations
 pub mod Verdicts
 pub mod Results
+pub mod Decimals
+pub mod Slips

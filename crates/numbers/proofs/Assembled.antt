@@ -8,7 +8,8 @@ use lib.ListN.{set, replicate, length-replicate}
 use Rattle.model.specs.declared.Problem.{Problem}
 use Rattle.model.specs.Numbers.{numbersOf, Sized, functionNumbers, vertexNumbers, edgeNumbers, loopNumbers}
 use Rattle.numbers.specs.Numbered.{Numbered, Stored}
-use Rattle.numbers.proofs.Places.{stored-behind, sets-over}
+use Rattle.model.proofs.Lists.{stored-behind}
+use Rattle.numbers.proofs.Places.{sets-over}
 use Rattle.numbers.proofs.Parts.{functionPart, vertexPart, edgePart, loopPart, in-parts, Lengths, lengths}
 use Rattle.numbers.proofs.Inverse.{numbers-length}
 use Rattle.model.specs.Places as places

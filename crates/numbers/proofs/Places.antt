@@ -7,16 +7,8 @@ use native.Mathlib.Nat.{mul-suc, suc-add}
 use native.Mathlib.Numerals.{add-one}
 use lib.ListN.{length, getD, set, take, drop, length-append}
 use lib.Seq.{sets, sets-eq, take-suc, take-all, length-take-le, drop-length}
-use Rattle.model.proofs.Lists.{sets-append}
+use Rattle.model.proofs.Lists.{stored-behind}
 use Rattle.numbers.specs.Numbered.{Stored}
-
--- Storing two lists, the second behind the first.
-pub stored-behind : (l₀ l l′ : List ℕ) (i j : ℕ) (xs ys : List ℕ) → l ≡ sets l₀ i xs → i + length xs ≡ j → l′ ≡ sets l j ys → l′ ≡ sets l₀ i (xs ++ ys)
-stored-behind l₀ l l′ i j xs ys e place e′ =
-    e′
-    ∙ ap (λ (m : List ℕ). sets m j ys) e
-    ∙ ap (λ (k : ℕ). sets (sets l₀ i xs) k ys) (sym place)
-    ∙ sym (sets-append xs ys l₀ i)
 
 -- A list that is stored over another as long takes its place.
 pub sets-over : (l xs : List ℕ) → length xs ≡ length l → sets l 0 xs ≡ xs
