@@ -2,7 +2,6 @@
 // buffer has no room for.
 use model::BoundAnswer;
 use model::Numbers;
-use model::Problem;
 use model::Verdict;
 ghost use mathlib.Core.Path.{_≡_};
 ghost use mathlib.Core.List.{List};
@@ -10,21 +9,21 @@ ghost use Prim.Native.Nat.{ℕ};
 ghost use lib.ListN.{replicate};
 ghost use Rattle.model.specs.Numbers.{problemOf};
 ghost use Rattle.model.specs.File.{numberCount, readLength};
-ghost use Rattle.model.specs.Operations.{readVerdict, readFile};
+ghost use Rattle.model.specs.Operations.{Checked};
 ghost use Rattle.model.specs.Results.{BoundSays};
-ghost use Rattle.sheet.specs.Fronts.{layoutLength, Front, FrontOf};
+ghost use Rattle.sheet.specs.Fronts.{layoutLength, Front, FrontOf, FrontRead};
 
 // Read's verdict; where it accepts, the problem is the one that the numbers say.
 pub fn read(buf: &[u8], n: usize, numbers: &mut Numbers) -> Verdict
     requires { ⌜ Front readLength (now buf) n ⌝ ∗ ⌜ now numbers ≡ replicate numberCount 0 ⌝ }
-    ensures { λ r. ⌜ ((file : List ℕ) → FrontOf (now (buf .entry)) n file → readVerdict r (problemOf (now (numbers .exit))) ≡ readFile file) ⌝ }
+    ensures { λ r. ⌜ FrontRead (now (buf .entry)) n (now (numbers .exit)) r ⌝ }
 {
     file::read_numbers(&buf[..n], numbers)
 }
 
-pub fn bound(problem: Problem, buf: &[u8], n: usize) -> BoundAnswer
-    requires { ⌜ Front layoutLength (now buf) n ⌝ }
-    ensures { λ r. ⌜ ((layout : List ℕ) → FrontOf (now (buf .entry)) n layout → BoundSays problem layout r) ⌝ }
+pub fn bound(numbers: &Numbers, buf: &[u8], n: usize) -> BoundAnswer
+    requires { ⌜ Checked (now numbers) ⌝ ∗ ⌜ Front layoutLength (now buf) n ⌝ }
+    ensures { λ r. ⌜ ((layout : List ℕ) → FrontOf (now (buf .entry)) n layout → BoundSays (problemOf (now (numbers .entry))) layout r) ⌝ }
 {
-    bound::bound(problem, &buf[..n])
+    bound::bound_checked(numbers, &buf[..n])
 }

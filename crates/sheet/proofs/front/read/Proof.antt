@@ -12,7 +12,9 @@ read-numbers-requires : tie.Need-read-numbers-requires
 read-numbers-requires c κs = c .before .before .before .pre .1
 
 returns : tie.Need-returns
-returns c = read-front _ _ (c .before .before .before .before .pre .0) _ (c .read-numbers .ensures .answer)
+returns c =
+    let found = c .read-numbers .ensures in
+    record { answer = read-front _ _ (c .before .before .before .before .pre .0) _ (found .answer); checked = found .checked }
 
 pub read-spec : {M : Type 1} → statement M
 read-spec = tie.close (tie.spec slice-aggregate-read-numbers read-numbers-requires returns)
