@@ -16,16 +16,18 @@ use Rattle.model.specs.Charges.{visitCharge, firstLoads, charges}
 use Rattle.model.specs.Runs.{held, cycles, loads}
 use Rattle.model.specs.Operations.{readFile, checkProblem}
 use Rattle.model.specs.Verdicts.{judgeProblem, judgeBound, mayFollow, pastBound, atLast, judgeWalk, judgeRun}
+use Rattle.model.specs.Decimals.{text, digitsOf, decimal}
+use Rattle.model.specs.Slips.{line, refusalLine, resultLines}
 use Rattle.sound.specs.Decide.{contestedTest}
 use Rattle.examples.specs.Problems.{problem, padded}
 use Rattle.examples.specs.Claims.{Claim, Means}
 use Rattle.examples.specs.Marks.{marks}
-use Rattle.examples.specs.Tests.{any, all, someFrom, everyFrom, member, fresh, handsOn, settled, setIs, greatestIs, same, passes}
+use Rattle.examples.specs.Tests.{any, all, someFrom, everyFrom, member, fresh, handsOn, settled, setIs, greatestIs, same, boundsAre, readsAs, passes}
 use Rattle.examples.proofs.Passed.{all-at}
 use Rattle.examples.proofs.Means.{means}
 
 computed : all passes marks ≡ true
-unfolding marks problem padded zipWith flatMap passes any all someFrom everyFrom member fresh handsOn settled setIs greatestIs same limits bases kinds
+unfolding marks problem padded zipWith flatMap boundsAre readsAs passes text decimal digitsOf line refusalLine resultLines any all someFrom everyFrom member fresh handsOn settled setIs greatestIs same limits bases kinds
     jumps counts numbersOf lowestFrom readGroups numberSize afterCount afterItem nextField belowCount fromHeader inRange edgeBefore ascends itemStart
     checkFrom readFrom lacks badRange wrongEdge noReturn graphRules visits total largest regionOf largestIn needOf judgeLayout since occurs
     visitCharge firstLoads charges held cycles loads readFile checkProblem judgeProblem judgeBound mayFollow pastBound atLast judgeWalk judgeRun

@@ -1,6 +1,7 @@
 -- A claim that passes its test holds.
 use Prim.Native.Nat.{ℕ, _-_, _≤_, _<_}
-use mathlib.Core.Path.{_≡_, refl, sym}
+use Prim.Native.String.{String}
+use mathlib.Core.Path.{_≡_, refl, sym, ap, _∙_, subst}
 use mathlib.Core.List.{List, [], reverse, List·Memᴰ}
 use mathlib.Core.Bool.{true, cond}
 use mathlib.Core.Logic.{_↔_, inl}
@@ -11,6 +12,9 @@ use borrow.Author.Tests.{eqb-true, leb-true}
 use Rattle.model.specs.declared.Refusal.{Refusal}
 use Rattle.model.specs.declared.Verdict.{Verdict}
 use Rattle.model.specs.declared.Verdict.the-variants as verdict
+use Rattle.model.specs.declared.ReadAnswer.{ReadAnswer}
+use Rattle.model.specs.declared.ReadAnswer.the-variants as read
+use Rattle.model.specs.declared.BoundAnswer.the-variants as bound
 use Rattle.model.specs.declared.RunAnswer.the-variants as run
 use Rattle.model.specs.declared.Problem.{Problem}
 use Rattle.model.specs.Refusals.{number, place}
@@ -24,15 +28,17 @@ use Rattle.model.specs.Runs.{cycles, loads}
 use Rattle.model.specs.Operations.{readFile}
 use Rattle.model.specs.Verdicts.{judgeBound, judgeRun}
 use Rattle.model.specs.Results.{boundLimit, runWalk}
+use Rattle.model.specs.Decimals.{text}
+use Rattle.model.specs.Slips.{refusalLine, slipBytes, BoundAfter, SlipIs}
 use Rattle.model.proofs.Cases.{and-left, and-right, true-not-false}
 use Rattle.sound.proofs.Sound.{cycles-covered}
 use Rattle.sound.proofs.Decide.{told}
-use Rattle.examples.specs.Claims.{Claim, sets, bounds, boundRefused, runs, runRefused, longestRun, reads, readRefused, RefusedAs, Means}
-use Rattle.examples.specs.Tests.{has, settled, ownMember, ownFresh, setIs, shared, contested, cold, accepted, verdictOf, refusedAs, passes}
+use Rattle.examples.specs.Claims.{Claim, sets, bounds, boundRefused, runs, runRefused, longestRun, reads, readRefused, prints, printsRefusal, RefusedAs, given, Means}
+use Rattle.examples.specs.Tests.{has, settled, ownMember, ownFresh, setIs, shared, contested, cold, accepted, verdictOf, refusedAs, boundsAre, readsAs, refusalIs, passes}
 use Rattle.examples.proofs.Passed.{each, all-at, has-is, every-below}
 use Rattle.examples.proofs.Greatest.{greatest-is}
 use Rattle.examples.proofs.Tables.{member-below, member-is, walk-below, function-below, member-all, tables}
-use Rattle.examples.proofs.Reading.{read-accepts, read-refuses}
+use Rattle.examples.proofs.Reading.{same-is, read-accepts, read-refuses}
 use Rattle.model.specs.Places as places
 
 accepted-is : (v : Verdict) → accepted v ≡ true → v ≡ verdict.Accepted
@@ -64,9 +70,9 @@ sets-mean p lists ok v below =
     let (ready, (are, _)) = each _ ok in
     set-is p (getD lists v []) v ready (every-below (p .«vertex_count») (λ v. setIs p (getD lists v []) v) are v below) below
 
-bounds-mean : (p : Problem) (layout : List ℕ) (need tally first most : ℕ) → passes (bounds p layout need tally first most) ≡ true →
+bounds-mean : (p : Problem) (layout : List ℕ) (need tally first most : ℕ) → boundsAre p layout need tally first most ≡ true →
     Means (bounds p layout need tally first most)
-unfolding passes
+unfolding boundsAre
 bounds-mean p layout need tally first most ok =
     let (judged, (ready, (need-is, (tally-is, (first-is, (low, (limit, (most-is, _)))))))) = each _ ok in
     let says = told p layout (shared p layout) (ownFresh p) (cold p layout) (tables p ready layout) in
@@ -110,8 +116,8 @@ run-refuses : (p : Problem) (layout walk : List ℕ) (f : Refusal) → judgeRun 
 unfolding runWalk
 run-refuses p layout walk f e = rw e
 
-reads-mean : (file : List ℕ) (p : Problem) → passes (reads file p) ≡ true → Means (reads file p)
-unfolding passes
+reads-mean : (file : List ℕ) (p : Problem) → readsAs file p ≡ true → Means (reads file p)
+unfolding readsAs
 reads-mean file p ok =
     let (ends, (numbers, (functions, (vertices, (edges, (loops, (graph, _))))))) = each _ ok in
     read-accepts p
@@ -123,6 +129,29 @@ reads-mean file p ok =
     })
     (accepted-is (judgeGraph p) graph) file ends numbers
 
+-- Read accepts the file, Bound answers these numbers, and the slip is of these.
+prints-mean : (file : List ℕ) (p : Problem) (layout : List ℕ) (need tally first most : ℕ) (slip : String) →
+    passes (prints file p layout need tally first most slip) ≡ true → SlipIs file layout (text slip)
+unfolding passes
+prints-mean file p layout need tally first most slip ok =
+    let (file-is, (numbers-are, (bytes-are, _))) = each _ ok in
+    let accepted : read.Accepted p ≡ readFile file = sym (reads-mean file p file-is) in
+    record {
+      answer = bound.Bounded (given need tally first most);
+      says = subst (λ (a : ReadAnswer). BoundAfter a layout (bound.Bounded (given need tally first most))) accepted (bounds-mean p layout need tally first most numbers-are);
+      bytes = same-is (text slip) _ bytes-are ∙ ap (λ (a : ReadAnswer). slipBytes a (bound.Bounded (given need tally first most))) accepted;
+    }
+
+refusal-prints : (file : List ℕ) (slip : List ℕ) (a : ReadAnswer) → readFile file ≡ a → refusalIs slip (verdictOf a) ≡ true →
+    (layout : List ℕ) → SlipIs file layout slip
+refusal-prints file slip (read.Accepted p) e ok layout = true-not-false (sym ok)
+refusal-prints file slip (read.Refused f) e ok layout =
+    record {
+      answer = bound.Refused f;
+      says = subst (λ (a : ReadAnswer). BoundAfter a layout (bound.Refused f)) (sym e) tt;
+      bytes = same-is slip (refusalLine f) ok ∙ ap (λ (a : ReadAnswer). slipBytes a (bound.Refused f)) (sym e);
+    }
+
 pub means : (c : Claim) → passes c ≡ true → Means c
 unfolding passes
 means (sets p lists) ok = sets-mean p lists ok
@@ -133,3 +162,5 @@ means (runRefused p layout walk n at) ok = refused-as n at (judgeRun p layout wa
 means (longestRun p layout c) ok = greatest-is p (cycles p layout) c ok
 means (reads file p) ok = reads-mean file p ok
 means (readRefused file n at) ok = refused-as n at (verdictOf (readFile file)) _ (λ f. read-refuses f (readFile file)) ok
+means (prints file p layout need tally first most slip) ok = prints-mean file p layout need tally first most slip ok
+means (printsRefusal file slip) ok = refusal-prints file (text slip) (readFile file) refl ok

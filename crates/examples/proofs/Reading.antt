@@ -22,7 +22,7 @@ use Rattle.model.proofs.Cases.{and-left, and-right, true-not-false}
 use Rattle.numbers.proofs.Inverse.{problem-of-numbers}
 use Rattle.examples.specs.Tests.{doneAt, same, verdictOf}
 
-same-is : (xs ys : List ℕ) → same xs ys ≡ true → xs ≡ ys
+pub same-is : (xs ys : List ℕ) → same xs ys ≡ true → xs ≡ ys
 unfolding same
 same-is [] [] e = refl
 same-is [] (y ∷ ys) e = true-not-false (sym e)

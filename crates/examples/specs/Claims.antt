@@ -1,5 +1,6 @@
 -- The kinds of statement that document 01 makes of its worked examples, and what each says in the words of the definitions.
 use Prim.Native.Nat.{ℕ, _<_}
+use Prim.Native.String.{String}
 use mathlib.Core.Path.{_≡_}
 use mathlib.Core.List.{List, [], List·Memᴰ}
 use mathlib.Core.Logic.{_↔_}
@@ -18,6 +19,8 @@ use Rattle.model.specs.Interference.{Interferes}
 use Rattle.model.specs.Runs.{cycles}
 use Rattle.model.specs.Operations.{readFile}
 use Rattle.model.specs.Results.{BoundSays, runWalk}
+use Rattle.model.specs.Decimals.{text}
+use Rattle.model.specs.Slips.{SlipIs}
 
 pub data Claim : Type 0 where
   -- A problem's interference sets, those of each vertex and its own function, vertex by vertex.
@@ -34,6 +37,10 @@ pub data Claim : Type 0 where
   -- A whole file, and the problem in it.
   reads : List ℕ → Problem → Claim
   readRefused : List ℕ → ℕ → ℕ → Claim
+  -- A whole file, the problem in it, a layout, Bound's four numbers, and the slip that `marksheet` prints.
+  prints : List ℕ → Problem → List ℕ → ℕ → ℕ → ℕ → ℕ → String → Claim
+  -- A file that Read refuses, and the slip for it and any layout.
+  printsRefusal : List ℕ → String → Claim
 
 -- Refused with this number at this place.
 abbrev pub RefusedAs : ℕ → ℕ → (Refusal → Type 0) → Type 0
@@ -52,3 +59,5 @@ Means (runRefused p layout walk n at) = RefusedAs n at (λ f. runWalk p layout w
 Means (longestRun p layout c) = Greatest p (cycles p layout) c
 Means (reads file p) = readFile file ≡ read.Accepted p
 Means (readRefused file n at) = RefusedAs n at (λ f. readFile file ≡ read.Refused f)
+Means (prints file p layout need contested first most slip) = SlipIs file layout (text slip)
+Means (printsRefusal file slip) = (layout : List ℕ) → SlipIs file layout (text slip)

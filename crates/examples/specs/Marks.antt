@@ -3,11 +3,15 @@
 use Prim.Native.Nat.{ℕ}
 use mathlib.Core.List.{List, [], _∷_}
 use Rattle.examples.specs.Problems.{P, Q, R, single}
-use Rattle.examples.specs.Claims.{Claim, sets, bounds, boundRefused, runs, runRefused, longestRun, reads, readRefused}
+use Rattle.examples.specs.Claims.{Claim, sets, bounds, boundRefused, runs, runRefused, longestRun, reads, readRefused, prints, printsRefusal}
 
 -- P's only walk.
 abbrev chain : List ℕ
 chain = 0 ∷ 1 ∷ 2 ∷ 3 ∷ 4 ∷ 5 ∷ 6 ∷ []
+
+-- M10's file.
+abbrev whole : List ℕ
+whole = 0x01 ∷ 0x08 ∷ 0x01 ∷ 0x08 ∷ 0x05 ∷ 0x01 ∷ 0x00 ∷ 0x0A ∷ 0x00 ∷ 0x00 ∷ []
 
 unfoldable pub marks : List Claim
 marks =
@@ -36,8 +40,11 @@ marks =
     ∷ runRefused (R 4) (0 ∷ 1 ∷ []) (0 ∷ 1 ∷ 2 ∷ 1 ∷ 2 ∷ 1 ∷ 2 ∷ 1 ∷ 2 ∷ 1 ∷ 3 ∷ []) 16 9
     ∷ bounds (R 1) (0 ∷ 1 ∷ []) 2 0 8 12
     ∷ bounds (R 1) [] 1 2 5 14
-    -- M10: a whole file, and for the empty layout need 8, charged 0, first 5, bound 15; empty input is refused 1 at 0.
-    ∷ reads (0x01 ∷ 0x08 ∷ 0x01 ∷ 0x08 ∷ 0x05 ∷ 0x01 ∷ 0x00 ∷ 0x0A ∷ 0x00 ∷ 0x00 ∷ []) single
+    -- M10: a whole file. For it and an empty layout `marksheet` prints `need 8`, `charged 0`, `first 5`, `bound 15`, one a line. A refusal prints
+    -- `refused 1 at 0`, here for empty input.
+    ∷ reads whole single
     ∷ bounds single [] 8 0 5 15
+    ∷ prints whole single [] 8 0 5 15 "need 8\ncharged 0\nfirst 5\nbound 15\n"
     ∷ readRefused [] 1 0
+    ∷ printsRefusal [] "refused 1 at 0\n"
     ∷ []

@@ -27,8 +27,10 @@ use Rattle.model.specs.Runs.{cycles, loads}
 use Rattle.model.specs.Operations.{readFile}
 use Rattle.model.specs.Verdicts.{judgeBound, judgeRun, pastBound}
 use Rattle.model.specs.Results.{boundLimit}
+use Rattle.model.specs.Decimals.{text}
+use Rattle.model.specs.Slips.{refusalLine, resultLines}
 use Rattle.sound.specs.Decide.{contestedTest}
-use Rattle.examples.specs.Claims.{Claim, sets, bounds, boundRefused, runs, runRefused, longestRun, reads, readRefused}
+use Rattle.examples.specs.Claims.{Claim, sets, bounds, boundRefused, runs, runRefused, longestRun, reads, readRefused, prints, printsRefusal, given}
 use Rattle.model.specs.Places as places
 
 module _ {A : Type 0} (test : A → Bool) where
@@ -164,9 +166,9 @@ same [] (y ∷ ys) = false
 same (x ∷ xs) [] = false
 same (x ∷ xs) (y ∷ ys) = eqb x y && same xs ys
 
-unfoldable pub passes : Claim → Bool
-passes (sets p each) = passed (settled p ∷ everyBelow (p .«vertex_count») (λ v. setIs p (getD each v []) v) ∷ [])
-passes (bounds p layout need tally first most) =
+-- Bound's four numbers are these.
+unfoldable pub boundsAre : Problem → List ℕ → ℕ → ℕ → ℕ → ℕ → Bool
+boundsAre p layout need tally first most =
     passed
     (accepted (judgeBound p layout)
     ∷ settled p
@@ -176,6 +178,24 @@ passes (bounds p layout need tally first most) =
     ∷ leb first most
     ∷ leb most boundLimit
     ∷ greatestIs p (charges (visitCharge p (contested p layout))) (most - first) ∷ [])
+
+-- The file holds this problem.
+unfoldable pub readsAs : List ℕ → Problem → Bool
+readsAs file p =
+    passed
+    (doneAt (length file) (readFields file .answer)
+    ∷ same (readFields file .numbers) (numbersOf p)
+    ∷ eqb (length (p .functions)) places.mostFunctions ∷ eqb (length (p .vertices)) places.mostVertices ∷ eqb (length (p .edges)) places.mostEdges ∷ eqb (length (p .loops)) places.mostLoops
+    ∷ accepted (judgeGraph p) ∷ [])
+
+-- The slip of a refusal is this text.
+abbrev pub refusalIs : List ℕ → Verdict → Bool
+refusalIs slip verdict.Accepted = false
+refusalIs slip (verdict.Refused f) = same slip (refusalLine f)
+
+unfoldable pub passes : Claim → Bool
+passes (sets p each) = passed (settled p ∷ everyBelow (p .«vertex_count») (λ v. setIs p (getD each v []) v) ∷ [])
+passes (bounds p layout need tally first most) = boundsAre p layout need tally first most
 passes (boundRefused p layout n at) = refusedAs n at (judgeBound p layout)
 passes (runs p layout walk c n) =
     passed
@@ -184,10 +204,8 @@ passes (runs p layout walk c n) =
     ∷ eqb (loads p layout (reverse walk)) n ∷ [])
 passes (runRefused p layout walk n at) = refusedAs n at (judgeRun p layout walk)
 passes (longestRun p layout c) = greatestIs p (cycles p layout) c
-passes (reads file p) =
-    passed
-    (doneAt (length file) (readFields file .answer)
-    ∷ same (readFields file .numbers) (numbersOf p)
-    ∷ eqb (length (p .functions)) places.mostFunctions ∷ eqb (length (p .vertices)) places.mostVertices ∷ eqb (length (p .edges)) places.mostEdges ∷ eqb (length (p .loops)) places.mostLoops
-    ∷ accepted (judgeGraph p) ∷ [])
+passes (reads file p) = readsAs file p
 passes (readRefused file n at) = refusedAs n at (verdictOf (readFile file))
+passes (prints file p layout need tally first most slip) =
+    passed (readsAs file p ∷ boundsAre p layout need tally first most ∷ same (text slip) (resultLines (given need tally first most)) ∷ [])
+passes (printsRefusal file slip) = refusalIs (text slip) (verdictOf (readFile file))
