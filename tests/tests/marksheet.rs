@@ -3,14 +3,18 @@
 //! MARKSHEET in the environment names the program; else it is where `rt check marksheet` puts it.
 
 use std::fs::{self, File};
-use std::io::Write;
+use std::io::{self, Write};
 use std::path::PathBuf;
 use std::process::{Command, Output, Stdio};
 use std::time::Duration;
 use std::{env, process, thread};
 
-use examiner_tests::damage::file_of;
+use examiner_tests::damage::{damaged_file, file_of, FILE_DAMAGES};
+use examiner_tests::problems::{lawful, with_total, Plan};
+use examiner_tests::random::Random;
+use examiner_tests::{effort, layouts};
 use reference::examples::{p, M10};
+use reference::problem::MOST_BOUND;
 
 /// A folder of its own to start the program in, removed afterwards.
 struct Desk(PathBuf);
@@ -83,6 +87,14 @@ fn complains(output: &Output, of: &str) {
     assert!(told.starts_with(&format!("marksheet: cannot read {of}")), "{told:?}");
 }
 
+/// The slip by the independent implementation.
+fn slip(file: &[u8], layout: &[u8]) -> String {
+    match reference::bound(file, layout) {
+        Ok(b) => format!("need {}\ncharged {}\nfirst {}\nbound {}\n", b.need, b.contested, b.first_loads, b.bound),
+        Err(refusal) => format!("refused {} at {}\n", refusal.number, refusal.place),
+    }
+}
+
 const OF_M10: &str = "need 8\ncharged 0\nfirst 5\nbound 15\n";
 const OF_P: &str = "need 14\ncharged 2\nfirst 8\nbound 85\n";
 
@@ -123,4 +135,53 @@ fn what_cannot_be_read_is_told_and_nothing_is_printed() {
     let desk = Desk::new("input");
     let folder = File::open(&desk.0).expect("a folder opens");
     complains(&desk.start(folder.into()).wait_with_output().expect("the program ends"), "standard input");
+}
+
+#[test]
+fn slips_are_those_of_the_independent_implementation() {
+    let mut random = Random::seeded(11);
+    for case in 0..150 * effort() {
+        let plan = if case % 5 == 0 { Plan::largest(&mut random) } else { Plan::small(&mut random, 12) };
+        let mut problem = lawful(&mut random, &plan);
+        let layout = layouts::any(&mut random, problem.functions.len());
+        layouts::fit_scratchpad(&mut random, &mut problem, &layout);
+        let damage = random.field(0..=FILE_DAMAGES - 1);
+        let file = if case % 3 == 0 { damaged_file(&mut random, &problem, damage) } else { file_of(&problem) };
+        prints(&Desk::new("seeded").with_layout(&layout).mark(&file), &slip(&file, &layout));
+    }
+    for total in [MOST_BOUND - 1, MOST_BOUND, MOST_BOUND + 1] {
+        let file = file_of(&with_total(total, 7));
+        prints(&Desk::new("limit").mark(&file), &slip(&file, &[]));
+    }
+}
+
+/// The texts of the calls `mark(b"title", b"problem", b"layout")` in a source, three a call.
+fn stored_cases(source: &str) -> Vec<[String; 3]> {
+    let calls = source.split("mark(").skip(1).filter_map(|call| {
+        let mut texts = call.split_once(");")?.0.split("b\"").skip(1).map(|text| text.split('"').next().unwrap_or("").replace("\\n", "\n"));
+        Some([texts.next()?, texts.next()?, texts.next()?])
+    });
+    calls.collect()
+}
+
+/// The program of the gate that marks stored files, held to the independent implementation: what it has to print, and so what it is compared with.
+#[test]
+fn stored_slips_are_those_of_the_independent_implementation() {
+    let crate_folder = PathBuf::from(env!("CARGO_MANIFEST_DIR")).join("../crates/sheet_cases");
+    let source = fs::read_to_string(crate_folder.join("src/main.rt")).expect("the program");
+    let data = |name: &str| fs::read(crate_folder.join("data").join(name));
+    let mut printed = String::new();
+    let cases = stored_cases(&source);
+    for [title, problem, layout] in &cases {
+        printed += title;
+        let Ok(file) = data(problem) else { continue };
+        match data(layout) {
+            Ok(layout) => printed += &slip(&file, &layout),
+            // one that does not exist is empty, and a folder is not asked for where Read refuses
+            Err(error) if error.kind() == io::ErrorKind::NotFound || reference::read(&file).is_err() => printed += &slip(&file, &[]),
+            Err(_) => {}
+        }
+    }
+    assert!(cases.len() >= 26, "only {} cases were found", cases.len());
+    assert_eq!(printed, fs::read_to_string(crate_folder.join("stdout")).expect("the stored output"));
 }
