@@ -1,0 +1,64 @@
+-- What the definitions look at in a problem is the same in records that are the same but for spare places: its lists, and what is read from them.
+use Prim.Native.Nat.{ℕ, _+_, _-_, _*_}
+use mathlib.Core.Path.{_≡_, sym}
+use mathlib.Core.List.{List, List·Memᴰ}
+use mathlib.Core.Bool.{Bool, cond}
+use lib.ListN.{getD}
+use lib.Dec.{eqb}
+use Rattle.model.specs.declared.Problem.{Problem}
+use Rattle.model.specs.Zero.{zeroFunction, zeroVertex}
+use Rattle.model.specs.Costs.{sizeOf, loadCost, functionOf, ownCost, total, largest}
+use Rattle.model.specs.Limits.{mostRegions}
+use Rattle.model.specs.Layouts.{regionOf, largestIn, needOf}
+use Rattle.model.specs.Walks.{EdgeOf, lastVertex}
+use Rattle.model.specs.Charges.{visitCharge, firstLoads}
+use Rattle.model.specs.Operations.{SameProblem}
+use Rattle.model.specs.Verdicts.{wordCount}
+
+pub same-sym : {p q : Problem} → SameProblem p q → SameProblem q p
+same-sym same =
+    record {
+      scratchpad = sym (same .scratchpad);
+      «function_count» = sym (same .«function_count»);
+      functions = sym (same .functions);
+      «vertex_count» = sym (same .«vertex_count»);
+      vertices = sym (same .vertices);
+      «edge_count» = sym (same .«edge_count»);
+      edges = sym (same .edges);
+      «loop_count» = sym (same .«loop_count»);
+      loops = sym (same .loops);
+    }
+
+module _ {p q : Problem} (same : SameProblem p q) where
+  pub same-size : sizeOf p ≡ sizeOf q
+  same-size = λ i f. getD (same .functions i) f zeroFunction .size .0
+
+  pub same-load : loadCost p ≡ loadCost q
+  same-load = λ i f. getD (same .functions i) f zeroFunction .load .0
+
+  pub same-function : functionOf p ≡ functionOf q
+  same-function = λ i v. getD (same .vertices i) v zeroVertex .function
+
+  pub same-cost : ownCost p ≡ ownCost q
+  same-cost = λ i v. getD (same .vertices i) v zeroVertex .cost .0
+
+  pub same-edge : EdgeOf p ≡ EdgeOf q
+  same-edge = λ i u v. List·Memᴰ (record { from = u; to = v }) (same .edges i)
+
+  pub same-last : lastVertex p ≡ lastVertex q
+  same-last = λ i. same .«vertex_count» i - 1
+
+  pub same-words : wordCount p ≡ wordCount q
+  same-words = λ i. same .«vertex_count» i * same .«function_count» i
+
+  pub same-need : (layout : List ℕ) → needOf p layout ≡ needOf q layout
+  unfolding needOf largestIn
+  same-need layout = λ i. total mostRegions (λ r. largest (same .«function_count» i) (λ f. cond (eqb (regionOf layout f) r) (same-size i f) 0))
+
+  pub same-charge : (contested : ℕ → Bool) → visitCharge p contested ≡ visitCharge q contested
+  unfolding visitCharge
+  same-charge contested = λ i v. same-cost i v + cond (contested v) (same-load i (same-function i v)) 0
+
+  pub same-first : (cold : ℕ → Bool) → firstLoads p cold ≡ firstLoads q cold
+  unfolding firstLoads
+  same-first cold = λ i. total (same .«function_count» i) (λ f. cond (cold f) (same-load i f) 0)
