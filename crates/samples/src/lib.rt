@@ -1,208 +1,87 @@
-// The worked problems P, Q and R of document 01, and S, where splitting a region raises the bound.
-use model::Bytes;
-use model::Cycles;
-use model::Edge;
-use model::Function;
-use model::Loop;
+// The worked problems P, Q and R of document 01, and S, where splitting a region raises the bound: each from its numbers in file order.
+use model::Numbers;
 use model::Problem;
-use model::Vertex;
-use model::places::MOST_EDGES;
-use model::places::MOST_FUNCTIONS;
-use model::places::MOST_LOOPS;
-use model::places::MOST_VERTICES;
+use model::places;
+ghost use Prim.Native.Nat.{_+_, _≤_};
+ghost use mathlib.Core.Path.{_≡_};
+ghost use lib.ListN.{length};
+ghost use lib.Seq.{sets};
+ghost use Rattle.model.specs.Places as spot;
+ghost use Rattle.model.specs.Numbers.{problemOf};
+ghost use Rattle.examples.specs.Problems.{P, Q, R};
+ghost use Rattle.samples.specs.Listed.{Fits, listed};
 
-fn function(size: u64, load: u64) -> Function {
-    Function {
-        size: Bytes(size),
-        load: Cycles(load),
+// The numbers of a part, stored from a place on.
+fn put(l: &mut Numbers, at: usize, part: &[u64])
+    requires { ⌜ at + length (now part) ≤ spot.end ⌝ }
+    ensures { λ result. ⌜ now (l .exit) ≡ sets (now (l .entry)) at (now (part .entry)) ⌝ }
+{
+    let mut i: usize = 0;
+    while i < part.len() {
+        l[at + i] = part[i];
+        i += 1;
     }
 }
 
-fn vertex(function: usize, cost: u64) -> Vertex {
-    Vertex {
-        function: function,
-        cost: Cycles(cost),
-    }
+// A problem from its lists: of each its count, and then its items' numbers.
+fn problem(
+    scratchpad: u64,
+    functions: &[u64],
+    vertices: &[u64],
+    edges: &[u64],
+    loops: &[u64],
+) -> Problem
+    requires { ⌜ Fits (now functions) (now vertices) (now edges) (now loops) ⌝ }
+    ensures { λ result. ⌜ result ≡ problemOf (listed scratchpad (now (functions .entry)) (now (vertices .entry)) (now (edges .entry)) (now (loops .entry))) ⌝ }
+{
+    let mut l = [0u64; places::END];
+    l[places::EDITION] = 1;
+    l[places::SCRATCHPAD] = scratchpad;
+    put(&mut l, places::FUNCTION_COUNT, functions);
+    put(&mut l, places::VERTEX_COUNT, vertices);
+    put(&mut l, places::EDGE_COUNT, edges);
+    put(&mut l, places::LOOP_COUNT, loops);
+    records::problem_of(&l)
 }
 
-fn edge(from: usize, to: usize) -> Edge {
-    Edge { from: from, to: to }
+// P has a scratchpad of 14; M5 asks it with 13 too. Three functions of sizes 8, 4, 6 and load costs 5, 3, 4; vertices of functions 0 1 0 2 0 1 0, each cost 10; a
+// chain of six edges.
+pub fn p(scratchpad: u64) -> Problem
+    ensures { λ result. ⌜ result ≡ P scratchpad ⌝ }
+{
+    let functions = [3u64, 8, 5, 4, 3, 6, 4];
+    let vertices = [7u64, 0, 10, 1, 10, 0, 10, 2, 10, 0, 10, 1, 10, 0, 10];
+    let edges = [6u64, 0, 1, 1, 2, 2, 3, 3, 4, 4, 5, 5, 6];
+    problem(scratchpad, &functions, &vertices, &edges, &[0])
 }
 
-// Three functions of sizes 8, 4, 6 and load costs 5, 3, 4.
-fn functions_p() -> [Function; MOST_FUNCTIONS] {
-    let mut functions = [function(0, 0); MOST_FUNCTIONS];
-    functions[0] = function(8, 5);
-    functions[1] = function(4, 3);
-    functions[2] = function(6, 4);
-    functions
+// Two functions of size 1 and load costs 5, 3; vertices of functions 0 1 1 0 with costs 10, 10, 20, 10; two branches.
+pub fn q() -> Problem
+    ensures { λ result. ⌜ result ≡ Q ⌝ }
+{
+    let functions = [2u64, 1, 5, 1, 3];
+    let vertices = [4u64, 0, 10, 1, 10, 1, 20, 0, 10];
+    let edges = [4u64, 0, 1, 0, 2, 1, 3, 2, 3];
+    problem(2, &functions, &vertices, &edges, &[0])
 }
 
-// Vertices of functions 0 1 0 2 0 1 0, each cost 10.
-fn vertices_p() -> [Vertex; MOST_VERTICES] {
-    let mut vertices = [vertex(0, 0); MOST_VERTICES];
-    vertices[0] = vertex(0, 10);
-    vertices[1] = vertex(1, 10);
-    vertices[2] = vertex(0, 10);
-    vertices[3] = vertex(2, 10);
-    vertices[4] = vertex(0, 10);
-    vertices[5] = vertex(1, 10);
-    vertices[6] = vertex(0, 10);
-    vertices
-}
-
-// A chain of six edges.
-fn edges_p() -> [Edge; MOST_EDGES] {
-    let mut edges = [edge(0, 0); MOST_EDGES];
-    edges[0] = edge(0, 1);
-    edges[1] = edge(1, 2);
-    edges[2] = edge(2, 3);
-    edges[3] = edge(3, 4);
-    edges[4] = edge(4, 5);
-    edges[5] = edge(5, 6);
-    edges
-}
-
-fn no_loops() -> [Loop; MOST_LOOPS] {
-    [Loop {
-        header: 0,
-        last: 0,
-        bound: 0,
-    }; MOST_LOOPS]
-}
-
-// P has a scratchpad of 14; M5 asks it with 13 too.
-pub fn p(scratchpad: u64) -> Problem {
-    Problem {
-        scratchpad: Bytes(scratchpad),
-        function_count: 3,
-        functions: functions_p(),
-        vertex_count: 7,
-        vertices: vertices_p(),
-        edge_count: 6,
-        edges: edges_p(),
-        loop_count: 0,
-        loops: no_loops(),
-    }
-}
-
-// Two functions of size 1 and load costs 5, 3: of Q and R.
-fn functions_q() -> [Function; MOST_FUNCTIONS] {
-    let mut functions = [function(0, 0); MOST_FUNCTIONS];
-    functions[0] = function(1, 5);
-    functions[1] = function(1, 3);
-    functions
-}
-
-// Vertices of functions 0 1 1 0 with costs 10, 10, 20, 10.
-fn vertices_q() -> [Vertex; MOST_VERTICES] {
-    let mut vertices = [vertex(0, 0); MOST_VERTICES];
-    vertices[0] = vertex(0, 10);
-    vertices[1] = vertex(1, 10);
-    vertices[2] = vertex(1, 20);
-    vertices[3] = vertex(0, 10);
-    vertices
-}
-
-fn edges_q() -> [Edge; MOST_EDGES] {
-    let mut edges = [edge(0, 0); MOST_EDGES];
-    edges[0] = edge(0, 1);
-    edges[1] = edge(0, 2);
-    edges[2] = edge(1, 3);
-    edges[3] = edge(2, 3);
-    edges
-}
-
-pub fn q() -> Problem {
-    Problem {
-        scratchpad: Bytes(2),
-        function_count: 2,
-        functions: functions_q(),
-        vertex_count: 4,
-        vertices: vertices_q(),
-        edge_count: 4,
-        edges: edges_q(),
-        loop_count: 0,
-        loops: no_loops(),
-    }
-}
-
-// Vertices of functions 0 0 1 0 with costs 1, 2, 7, 1.
-fn vertices_r() -> [Vertex; MOST_VERTICES] {
-    let mut vertices = [vertex(0, 0); MOST_VERTICES];
-    vertices[0] = vertex(0, 1);
-    vertices[1] = vertex(0, 2);
-    vertices[2] = vertex(1, 7);
-    vertices[3] = vertex(0, 1);
-    vertices
-}
-
-fn edges_r() -> [Edge; MOST_EDGES] {
-    let mut edges = [edge(0, 0); MOST_EDGES];
-    edges[0] = edge(0, 1);
-    edges[1] = edge(1, 2);
-    edges[2] = edge(1, 3);
-    edges[3] = edge(2, 1);
-    edges
-}
-
-// One loop, 1 to 2.
-fn loops_r(bound: u64) -> [Loop; MOST_LOOPS] {
-    let mut loops = no_loops();
-    loops[0] = Loop {
-        header: 1,
-        last: 2,
-        bound: bound,
-    };
-    loops
-}
-
-// R has bound 4; M9 asks it with bound 1 too.
-pub fn r(bound: u64) -> Problem {
-    Problem {
-        scratchpad: Bytes(2),
-        function_count: 2,
-        functions: functions_q(),
-        vertex_count: 4,
-        vertices: vertices_r(),
-        edge_count: 4,
-        edges: edges_r(),
-        loop_count: 1,
-        loops: loops_r(bound),
-    }
-}
-
-// Three functions of size 1 and load costs 5, 3, 4.
-fn functions_s() -> [Function; MOST_FUNCTIONS] {
-    let mut functions = [function(0, 0); MOST_FUNCTIONS];
-    functions[0] = function(1, 5);
-    functions[1] = function(1, 3);
-    functions[2] = function(1, 4);
-    functions
-}
-
-// A short branch through function 1 and a long one through function 2.
-fn vertices_s() -> [Vertex; MOST_VERTICES] {
-    let mut vertices = [vertex(0, 0); MOST_VERTICES];
-    vertices[0] = vertex(0, 10);
-    vertices[1] = vertex(1, 1);
-    vertices[2] = vertex(2, 100);
-    vertices[3] = vertex(2, 10);
-    vertices
+// R has bound 4; M9 asks it with bound 1 too. Q's functions; vertices of functions 0 0 1 0 with costs 1, 2, 7, 1; one loop, 1 to 2.
+pub fn r(bound: u64) -> Problem
+    ensures { λ result. ⌜ result ≡ R bound ⌝ }
+{
+    let functions = [2u64, 1, 5, 1, 3];
+    let vertices = [4u64, 0, 1, 0, 2, 1, 7, 0, 1];
+    let edges = [4u64, 0, 1, 1, 2, 1, 3, 2, 1];
+    let loops = [1u64, 1, 2, bound];
+    problem(2, &functions, &vertices, &edges, &loops)
 }
 
 // S: splitting a region raises the bound. With functions 0 and 1 in one region, vertex 1 is contested and costs its load on the short branch alone; with a
-// region of its own, function 1 is cold and is charged on every branch.
+// region of its own, function 1 is cold and is charged on every branch. Three functions of size 1 and load costs 5, 3, 4; a short branch through function 1
+// and a long one through function 2.
 pub fn s() -> Problem {
-    Problem {
-        scratchpad: Bytes(3),
-        function_count: 3,
-        functions: functions_s(),
-        vertex_count: 4,
-        vertices: vertices_s(),
-        edge_count: 4,
-        edges: edges_q(),
-        loop_count: 0,
-        loops: no_loops(),
-    }
+    let functions = [3u64, 1, 5, 1, 3, 1, 4];
+    let vertices = [4u64, 0, 10, 1, 1, 2, 100, 2, 10];
+    let edges = [4u64, 0, 1, 0, 2, 1, 3, 2, 3];
+    problem(3, &functions, &vertices, &edges, &[0])
 }
