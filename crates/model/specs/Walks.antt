@@ -1,7 +1,7 @@
 -- The graph: walks, stays and lawful walks. A walk is kept as a history, its latest vertex first, since what document 01 says of a visit looks back.
 use Prim.Native.Nat.{ℕ, _+_, _-_, _≤_}
 use mathlib.Core.Path.{_≡_}
-use mathlib.Core.List.{List, [], _∷_, List·Memᴰ}
+use mathlib.Core.List.{List, [], _∷_, reverse, List·Memᴰ}
 use mathlib.Core.Bool.{cond}
 use lib.Dec.{eqb}
 use Rattle.model.specs.declared.Edge.{Edge}
@@ -36,6 +36,10 @@ Within ls (v ∷ h) = ((l : Loop) → List·Memᴰ l ls → l .header ≡ v → 
 pub record Lawful (p : Problem) (h : List ℕ) : Type 0 where
   pub walk : Walk (EdgeOf p) (lastVertex p) h
   pub within : Within (loopsOf p) (lastVertex p ∷ h)
+
+-- A walk in its own order, its first vertex first, is lawful.
+abbrev pub LawfulWalk : Problem → List ℕ → Type 0
+LawfulWalk p walk = (h : List ℕ) × (reverse walk ≡ lastVertex p ∷ h) × Lawful p h
 
 -- m is the greatest sum of f over all lawful walks.
 pub record Greatest (p : Problem) (f : List ℕ → ℕ) (m : ℕ) : Type 0 where

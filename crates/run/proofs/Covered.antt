@@ -25,7 +25,7 @@ use Rattle.walk.proofs.Lawful.{judged-lawful}
 
 module _ (p : Problem) (layout walk : List ℕ) where
   -- A walk that Run runs was judged good.
-  entries-good : judgeRun p layout walk ≡ Accepted → judgeWalk p [] 0 walk ≡ Accepted
+  pub entries-good : judgeRun p layout walk ≡ Accepted → judgeWalk p [] 0 walk ≡ Accepted
   unfolding judgeRun
   entries-good e = at (judgeBound p layout) (ltb walkLimit (length walk)) e
     where
@@ -35,7 +35,8 @@ module _ (p : Problem) (layout walk : List ℕ) where
       at (Refused f) true q = refused-not-accepted q
       at (Refused f) false q = refused-not-accepted q
 
-  ran-good : (v : Verdict) (r : Run) → runAfter v p layout walk ≡ run.Ran r → (v ≡ Accepted) × (r .cycles .0 ≡ cycles p layout (reverse walk))
+  -- What a result tells: the walk was judged good, and its cycles are those of the run.
+  pub ran-good : (v : Verdict) (r : Run) → runAfter v p layout walk ≡ run.Ran r → (v ≡ Accepted) × (r .cycles .0 ≡ cycles p layout (reverse walk))
   ran-good Accepted r e =
       let same : r ≡ record { cycles = cyclesOf (cycles p layout (reverse walk)); loads = loads p layout (reverse walk) } = cc in
       (refl, ap (λ (x : Run). x .cycles .0) same)

@@ -44,7 +44,7 @@ module _ (p : Problem) (layout walk regions : List ℕ) where
     too-long h = answered (Refused (WalkTooLong walkLimit)) (then-walk ∙ (simp (lt-ltb walkLimit (length walk) h)))
 
     module _ (short : length walk ≤ walkLimit) (v : Verdict) (judged : v ≡ judgeWalk p [] 0 walk) where
-      entries : judgeRun p layout walk ≡ v
+      pub entries : judgeRun p layout walk ≡ v
       entries = then-walk ∙ (simp (le-ltb walkLimit (length walk) short)) ∙ sym judged
 
       pub bad-entry : (x : Refusal) → v ≡ Refused x → Says (run.Refused x) regions

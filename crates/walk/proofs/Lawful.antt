@@ -13,7 +13,7 @@ use Rattle.model.specs.declared.Verdict.the-variants.{Accepted}
 use Rattle.model.specs.Numbers.{problemOf}
 use Rattle.model.specs.Graph.{loopsOf}
 use Rattle.model.specs.Operations.{Checked}
-use Rattle.model.specs.Walks.{EdgeOf, lastVertex, Walk, Within, Lawful}
+use Rattle.model.specs.Walks.{EdgeOf, lastVertex, Walk, Within, Lawful, LawfulWalk}
 use Rattle.model.specs.Walks.Walk.{start, step}
 use Rattle.model.specs.Verdicts.{mayFollow, pastBound, atLast, judgeWalk}
 use Rattle.model.proofs.Answers.{refused-not-accepted}
@@ -78,7 +78,7 @@ module _ (p : Problem) where
       judged rest (v ∷ h) (k + 1) (onward h k v rest ok) (sound-more h v (both h k v rest ok .1) (bounded h k v rest ok) sound)
 
   -- A walk that is judged good is lawful.
-  pub judged-lawful : (walk : List ℕ) → judgeWalk p [] 0 walk ≡ Accepted → (h : List ℕ) × (reverse walk ≡ lastVertex p ∷ h) × Lawful p h
+  pub judged-lawful : (walk : List ℕ) → judgeWalk p [] 0 walk ≡ Accepted → LawfulWalk p walk
   judged-lawful walk ok = judged walk [] 0 ok tt
 
   within-bounds : (h : List ℕ) (v : ℕ) → Within (loopsOf p) (v ∷ h) → pastBound p h v ≡ false
