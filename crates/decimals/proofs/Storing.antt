@@ -1,13 +1,13 @@
--- Digits counted, and stored one by one from the last; a text stored byte by byte; and one part stored behind another.
+-- Digits counted, and stored one by one from the last; and one part written behind another.
 use Prim.Native.Nat.{ℕ, zero, suc, _+_, _-_, _/_, _%_, _≤_, _<_}
 use native.Mathlib.Omega.{arith}
 use mathlib.Core.Path.{_≡_, refl, sym, ap, _∙_}
 use mathlib.Core.List.{List, [], _∷_, _++_}
-use lib.ListN.{length, getD, set, take, drop, length-append, length-set}
-use lib.Seq.{sets, sets-eq, set-comm, take-suc, take-all, take-at, length-take-le, length-sets}
+use lib.ListN.{length, set, take, drop, length-append, length-set}
+use lib.Seq.{sets, sets-eq, set-comm, take-at, length-sets}
 use Rattle.model.specs.Decimals.{decimal}
 use Rattle.model.proofs.Cases.{by-order}
-use Rattle.model.proofs.Lists.{sets-append, stored-behind}
+use Rattle.model.proofs.Lists.{stored-behind}
 use Rattle.decimals.specs.Written.{Written}
 use Rattle.decimals.proofs.Digits.{short, long, short-size, long-size}
 
@@ -89,35 +89,6 @@ module _ (b : List ℕ) (at n : ℕ) (buf : List ℕ) (left rest : ℕ) (s : Sto
   pub stored : left ≤ 0 → buf ≡ sets b at (decimal n)
   unfolding spell
   stored h = let e : left ≡ 0 = omega arith in rw e at (s .same)
-
--- The first i bytes of a text are stored.
-pub record Copying (before : List ℕ) (at : ℕ) (xs buf : List ℕ) (i : ℕ) : Type 0 where
-  pub few : i ≤ length xs
-  pub size : length buf ≡ length before
-  pub same : buf ≡ sets before at (take i xs)
-
-pub copying-start : (b : List ℕ) (at : ℕ) (xs : List ℕ) → Copying b at xs b 0
-copying-start b at xs = record { few = omega arith; size = refl; same = refl }
-
-module _ (b : List ℕ) (at : ℕ) (xs buf : List ℕ) (i : ℕ) (c : Copying b at xs buf i) where
-  pub copying-next : i < length xs → Copying b at xs (set buf (at + i) (getD xs i 0)) (i + 1)
-  copying-next h =
-      let more : suc i ≡ i + 1 = omega arith in
-      record {
-        few = omega arith;
-        size = length-set buf (at + i) (getD xs i 0) ∙ c .size;
-        same =
-            ap (λ (l : List ℕ). set l (at + i) (getD xs i 0)) (c .same)
-            ∙ ap (λ (k : ℕ). set (sets b at (take i xs)) (at + k) (getD xs i 0)) (sym (length-take-le i xs (c .few)))
-            ∙ sym (sets-append (take i xs) (getD xs i 0 ∷ []) b at)
-            ∙ ap (λ (l : List ℕ). sets b at l) (sym (take-suc xs i 0 h))
-            ∙ ap (λ (k : ℕ). sets b at (take k xs)) more;
-      }
-
-  pub copied : length xs ≤ i → at + length xs ≤ length b → Written b at xs buf (at + i)
-  copied h room =
-      let e : i ≡ length xs = omega (arith, c .few) in
-      record { room = room; stored = c .same ∙ ap (λ (l : List ℕ). sets b at l) (take-all i xs h); behind = ap (λ (k : ℕ). at + k) e }
 
 pub written-size : {b c : List ℕ} {at next : ℕ} {xs : List ℕ} → Written b at xs c next → length c ≡ length b
 written-size {b} {c} {at} {next} {xs} w = ap length (w .stored) ∙ length-sets b at xs

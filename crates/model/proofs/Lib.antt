@@ -3,3 +3,4 @@ pub mod Lists
 pub mod Search
 pub mod Answers
 pub mod Filling
+pub mod Copies

@@ -3,18 +3,18 @@ use Prim.Native.Nat.{_-_}
 use lib.ListN.{length}
 use native.Mathlib.Omega.{arith}
 use borrow.Author.Needs.{needs}
-use Rattle.decimals.proofs.Storing.{Copying, copying-start, copying-next, copied}
+use Rattle.model.proofs.Copies.{CopiedTo, copied-none, copied-more, copied-all}
 use Rattle.decimals.proofs.write_text.Statement.{statement}
 use Rattle.decimals.proofs.write_text.Tie as tie
 
 abbrev Inv-loop : tie.InvT-loop
-Inv-loop buf₀ at text i₀ buf i = Copying buf₀ at text buf i
+Inv-loop buf₀ at text i₀ buf i = CopiedTo buf₀ at text i buf
 
 abbrev μ-loop : tie.MeasureT-loop
 μ-loop buf₀ at text i₀ buf i = length text - i
 
 loop-holds : tie.Need-loop-holds Inv-loop μ-loop
-loop-holds c = copying-start _ _ _
+loop-holds c = copied-none _ _ _
 
 shared-slice-read-buf : tie.Need-shared-slice-read-buf Inv-loop μ-loop
 shared-slice-read-buf c = search needs
@@ -32,7 +32,7 @@ loop-less : tie.Need-loop-less Inv-loop μ-loop
 loop-less c = search needs
 
 loop-again : tie.Need-loop-again Inv-loop μ-loop
-loop-again c = copying-next _ _ _ _ _ (c .before .before .loop .inv) (c .before .loop-test .taken)
+loop-again c = copied-more _ _ _ _ _ (c .before .loop-test .taken) (c .before .before .loop .inv)
 
 add-result : tie.Need-add-result Inv-loop μ-loop
 add-result c = search needs
@@ -41,7 +41,9 @@ same-length : tie.Need-same-length Inv-loop μ-loop
 same-length c = search needs
 
 returns : tie.Need-returns Inv-loop μ-loop
-returns c = copied _ _ _ _ _ (c .before .loop .inv) (c .loop-test .left) (search needs)
+returns c =
+    let all = c .before .loop .inv in
+    record { room = search needs; stored = copied-all _ _ _ _ _ (c .loop-test .left) all; behind = omega (arith, all .within, c .loop-test .left) }
 
 pub write-text-spec : {M : Type 1} → statement M
 write-text-spec =

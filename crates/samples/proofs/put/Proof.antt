@@ -2,18 +2,18 @@
 use Prim.Native.Nat.{_-_}
 use borrow.Author.Needs.{needs}
 use lib.ListN.{length}
-use Rattle.samples.proofs.Storing.{StoredTo, stored-none, stored-more, stored-all}
+use Rattle.model.proofs.Copies.{CopiedTo, copied-none, copied-more, copied-all}
 use Rattle.samples.proofs.put.Statement.{statement}
 use Rattle.samples.proofs.put.Tie as tie
 
 abbrev Inv-loop : tie.InvT-loop
-Inv-loop l₀ at part i₀ l i = StoredTo l₀ at part i l
+Inv-loop l₀ at part i₀ l i = CopiedTo l₀ at part i l
 
 abbrev μ-loop : tie.MeasureT-loop
 μ-loop l₀ at part i₀ l i = length part - i
 
 loop-holds : tie.Need-loop-holds Inv-loop μ-loop
-loop-holds c = stored-none _ _ _
+loop-holds c = copied-none _ _ _
 
 mul-l : tie.Need-mul-l Inv-loop μ-loop
 mul-l c = search needs
@@ -37,10 +37,10 @@ loop-less : tie.Need-loop-less Inv-loop μ-loop
 loop-less c = search needs
 
 loop-again : tie.Need-loop-again Inv-loop μ-loop
-loop-again c = stored-more _ _ _ _ _ (c .before .loop-test .taken) (c .before .before .loop .inv)
+loop-again c = copied-more _ _ _ _ _ (c .before .loop-test .taken) (c .before .before .loop .inv)
 
 returns : tie.Need-returns Inv-loop μ-loop
-returns c = stored-all _ _ _ _ _ (c .loop-test .left) (c .before .loop .inv)
+returns c = copied-all _ _ _ _ _ (c .loop-test .left) (c .before .loop .inv)
 
 pub put-spec : {M : Type 1} → statement M
 put-spec =
