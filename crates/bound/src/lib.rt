@@ -21,10 +21,11 @@ pub fn price(l: &Numbers, layout: &[u8], need: Bytes) -> BoundAnswer
 {
     let mut rivals = [0u32; places::MOST_FUNCTIONS];
     rivals::fill_rivals(l, layout, &mut rivals);
+    let begins = flow::starts(l);
     let mut held = [0u32; places::MOST_VERTICES];
-    held::may_hold(l, &rivals, &mut held);
+    held::may_hold(l, &begins, &rivals, &mut held);
     let mut fresh = [0u32; places::MOST_VERTICES];
-    reach::first_reach(l, &mut fresh);
+    reach::first_reach(l, &begins, &mut fresh);
     let mut flags = [0u8; places::MOST_VERTICES];
     let contested = charges::mark_contested(l, &rivals, &held, &mut flags);
     let mut charge = [0u64; places::MOST_VERTICES];

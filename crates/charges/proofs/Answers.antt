@@ -13,7 +13,7 @@ use Rattle.model.specs.declared.Problem.{Problem}
 use Rattle.model.specs.Costs.{functionOf, ownCost, loadCost}
 use Rattle.model.specs.Charges.{visitCharge}
 use Rattle.sound.specs.Decide.{contestedTest}
-use Rattle.charges.specs.Tests.{contestedBy, flagged, chargeAt}
+use Rattle.charges.specs.Tests.{contestedBy, flagged}
 
 -- A vertex is contested as the two words say.
 module _ (p : Problem) (rivals held : List ℕ) (v : ℕ) where
@@ -32,13 +32,3 @@ module _ (p : Problem) (flags : List ℕ) (v : ℕ) {own : ℕ} (own-is : own �
       charge ≡ visitCharge p (flagged flags) v
   unfolding visitCharge flagged
   flagged-charge of-v flag load-is e = rw (← own-is, ← of-v, eq-eqb (getD flags v 0) 1 flag, ← load-is) e
-
--- What stands in a table of visit charges, among the vertices and past them.
-module _ (p : Problem) (contested : ℕ → Bool) {v count : ℕ} (counted : count ≡ p .«vertex_count») where
-  pub among-vertices : {charge : ℕ} → v < count → charge ≡ visitCharge p contested v → charge ≡ chargeAt p contested v
-  unfolding chargeAt
-  among-vertices below e = rw (lt-ltb v (p .«vertex_count») (omega arith)) e
-
-  pub past-vertices : count ≤ v → 0 ≡ chargeAt p contested v
-  unfolding chargeAt
-  past-vertices past = rw (le-ltb v (p .«vertex_count») (omega arith))

@@ -1,22 +1,22 @@
 -- Tables by vertex, filled from the front: flags and visit charges.
 use Prim.Native.Nat.{ℕ, _+_, _≤_, _<_}
-use mathlib.Core.Path.{_≡_, refl, _∙_}
+use mathlib.Core.Path.{_≡_, refl, ap, _∙_}
 use mathlib.Core.List.{List}
 use mathlib.Core.Bool.{Bool, cond}
 use native.Mathlib.Omega.{arith}
-use lib.ListN.{length, getD, set, length-set, List·getD-eq-default}
+use lib.ListN.{length, getD, set, replicate, length-set, length-replicate}
 use lib.Seq.{getD-set-same, getD-set-other}
 use borrow.Author.Count.{below-none, below-more}
-use borrow.Author.Tests.{lt-ltb, le-ltb}
+use Rattle.model.specs.declared.Problem.{Problem}
 use Rattle.model.specs.Numbers.{problemOf}
 use Rattle.model.specs.Places as places
 use Rattle.model.specs.Operations.{Checked}
 use Rattle.model.specs.Costs.{total, howMany}
 use Rattle.model.specs.Charges.{visitCharge}
 use Rattle.model.proofs.Cases.{by-cond, by-order}
-use Rattle.lookup.proofs.Places.{facts, few-vertices}
+use Rattle.model.proofs.Lists.{getD-replicate-self}
 use Rattle.layout.proofs.Sums.{Upto, turn, end, total-more, total-high}
-use Rattle.charges.specs.Tests.{Tallied, chargeAt, chargeLimit, Charged}
+use Rattle.charges.specs.Tests.{Tallied, chargeLimit, Charged}
 use Rattle.charges.proofs.Sizes.{visit-high}
 
 -- The numbers below i stand in the table as they should.
@@ -73,21 +73,39 @@ module _ {n : ℕ} {test : ℕ → Bool} {i : ℕ} {flags : List ℕ} {tally : �
         tally-is = end (tallying .upto) past;
       }
 
--- Visit charges, when all are there.
-module _ (l : List ℕ) (checked : Checked l) (contested : ℕ → Bool) {i : ℕ} {charge : List ℕ} where
-  pub all-charged : ValuesBelow (chargeAt (problemOf l) contested) i charge → places.mostVertices ≤ i → Charged (problemOf l) contested charge
-  unfolding chargeAt
-  all-charged filled past = record { long = filled .long; charged = charged; spare = spare; small = small }
-    where
-      charged : (v : ℕ) → v < problemOf l .«vertex_count» → getD charge v 0 ≡ visitCharge (problemOf l) contested v
-      charged v below = filled .item v (omega (arith, few-vertices l (facts _ checked))) ∙ (rw (lt-ltb v (problemOf l .«vertex_count») below))
+-- Visit charges of the first i vertices, in a table that is zero from there on.
+pub record ChargedTo (p : Problem) (contested : ℕ → Bool) (i : ℕ) (charge : List ℕ) : Type 0 where
+  pub filled : ValuesBelow (visitCharge p contested) i charge
+  pub rest : (v : ℕ) → i ≤ v → getD charge v 0 ≡ 0
 
-      spare : (v : ℕ) → problemOf l .«vertex_count» ≤ v → getD charge v 0 ≡ 0
-      spare v out =
-          by-order v places.mostVertices (λ h. filled .item v (omega arith) ∙ (rw (le-ltb v (problemOf l .«vertex_count») out)))
-          (λ h. List·getD-eq-default charge 0 (omega (arith, filled .long)))
+module _ {p : Problem} {contested : ℕ → Bool} {charge : List ℕ} where
+  pub none-charged : charge ≡ replicate places.mostVertices 0 → ChargedTo p contested 0 charge
+  none-charged e =
+      record {
+        filled = fill-start (ap length e ∙ length-replicate {A = ℕ} places.mostVertices 0);
+        rest = λ v low. ap (λ (l : List ℕ). getD l v 0) e ∙ getD-replicate-self places.mostVertices v 0;
+      }
 
-      small : (v : ℕ) → getD charge v 0 ≤ chargeLimit
-      small v =
-          by-order v (problemOf l .«vertex_count») (λ h. omega (arith, charged v h, visit-high l checked contested v h))
-          (λ h. omega (arith, spare v h))
+  pub one-charged : {i visit : ℕ} → ChargedTo p contested i charge → i < places.mostVertices → visit ≡ visitCharge p contested i →
+      ChargedTo p contested (i + 1) (set charge i visit)
+  one-charged {i} {visit} so-far room is =
+      record {
+        filled = fill-more (so-far .filled) room is;
+        rest = λ v low. getD-set-other charge i v visit 0 (omega arith) ∙ so-far .rest v (omega arith);
+      }
+
+-- All are there.
+pub all-charged : (l : List ℕ) → Checked l → (contested : ℕ → Bool) {i : ℕ} {charge : List ℕ} → i ≡ problemOf l .«vertex_count» →
+    ChargedTo (problemOf l) contested i charge → Charged (problemOf l) contested charge
+all-charged l checked contested {i} {charge} all so-far = record { long = so-far .filled .long; charged = charged; spare = spare; small = small }
+  where
+    charged : (v : ℕ) → v < problemOf l .«vertex_count» → getD charge v 0 ≡ visitCharge (problemOf l) contested v
+    charged v below = so-far .filled .item v (omega arith)
+
+    spare : (v : ℕ) → problemOf l .«vertex_count» ≤ v → getD charge v 0 ≡ 0
+    spare v out = so-far .rest v (omega arith)
+
+    small : (v : ℕ) → getD charge v 0 ≤ chargeLimit
+    small v =
+        by-order v (problemOf l .«vertex_count») (λ h. omega (arith, charged v h, visit-high l checked contested v h))
+        (λ h. omega (arith, spare v h))

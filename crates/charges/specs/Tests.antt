@@ -56,10 +56,6 @@ pub record ColdBelow (p : Problem) (flags fresh : List ℕ) (n word : ℕ) : Typ
 abbrev pub ColdWord : Problem → List ℕ → List ℕ → ℕ → Type 0
 ColdWord p flags fresh word = ColdBelow p flags fresh (p .«vertex_count») word
 
--- The visit charge of a vertex, and 0 past the vertices.
-unfoldable pub chargeAt : Problem → (ℕ → Bool) → ℕ → ℕ
-chargeAt p contested v = cond (ltb v (p .«vertex_count»)) (visitCharge p contested v) 0
-
 -- An own cost and a load cost come to no more.
 abbrev pub chargeLimit : ℕ
 chargeLimit = limits.mostCycles + limits.mostCycles

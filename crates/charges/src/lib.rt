@@ -7,14 +7,14 @@ ghost use mathlib.Core.Path.{_≡_};
 ghost use mathlib.Core.Bool.{cond};
 ghost use mathlib.Core.Logic.{_↔_};
 ghost use Prim.Native.Nat.{ℕ, _<_};
-ghost use lib.ListN.{length};
+ghost use lib.ListN.{length, replicate};
 ghost use Rattle.model.specs.Numbers.{problemOf};
 ghost use Rattle.model.specs.Operations.{Checked};
 ghost use Rattle.model.specs.Charges.{visitCharge};
 ghost use Rattle.model.specs.Places.{mostVertices};
 ghost use Rattle.model.specs.Results.{Member};
 ghost use Rattle.bits.specs.Tests.{has};
-ghost use Rattle.charges.specs.Tests.{contestedBy, flagged, EarlyAt, ColdWord, chargeAt, firstLoad, Tallied, Charged, LoadedFirst};
+ghost use Rattle.charges.specs.Tests.{contestedBy, flagged, EarlyAt, ColdWord, firstLoad, Tallied, Charged, LoadedFirst};
 
 // Whether some walk arrives at v with a rival of its function held: two words have a member in common.
 fn is_contested(
@@ -74,28 +74,19 @@ fn visit_charge(l: &Numbers, flags: &[u8; places::MOST_VERTICES], v: usize) -> C
     own
 }
 
-// The visit charge of a vertex, and 0 past the vertices.
-fn charge_at(l: &Numbers, flags: &[u8; places::MOST_VERTICES], v: usize) -> Cycles
-    requires { ⌜ Checked (now l) ⌝ }
-    ensures { λ r. ⌜ r .0 ≡ chargeAt (problemOf (now (l .entry))) (flagged (now (flags .entry))) v ⌝ }
-{
-    if v < lookup::vertex_count(l) {
-        return visit_charge(l, flags, v);
-    }
-    Cycles(0)
-}
-
+// The visit charges in a table that is all zero, and stays so past the vertices.
 pub fn fill_charges(
     l: &Numbers,
     flags: &[u8; places::MOST_VERTICES],
     charge: &mut [u64; places::MOST_VERTICES],
 )
-    requires { ⌜ Checked (now l) ⌝ ∗ ⌜ length (now charge) ≡ mostVertices ⌝ }
+    requires { ⌜ Checked (now l) ⌝ ∗ ⌜ now charge ≡ replicate mostVertices 0 ⌝ }
     ensures { λ r. ⌜ Charged (problemOf (now (l .entry))) (flagged (now (flags .entry))) (now (charge .exit)) ⌝ }
 {
+    let count = lookup::vertex_count(l);
     let mut v: usize = 0;
-    while v < places::MOST_VERTICES {
-        let visit = charge_at(l, flags, v);
+    while v < count {
+        let visit = visit_charge(l, flags, v);
         charge[v] = visit.0;
         v += 1;
     }

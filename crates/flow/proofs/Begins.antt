@@ -116,7 +116,7 @@ module _ (p : Problem) where
       first : Begins p 0 0
       first = record { inside = omega arith; lower = λ j lt. absurd (omega arith); rest = λ j le lt. omega arith }
 
-  pub all-found : {behind begins : List ℕ} → Found behind places.mostVertices begins → Starts p begins
+  pub all-found : {behind begins : List ℕ} → Found behind (p .«vertex_count») begins → Starts p begins
   all-found f = record { at = f .all }
 
 pub one-found : {l behind begins : List ℕ} {u next : ℕ} → Checked l → Ends (problemOf l) (length (edgesOf (problemOf l))) behind → u < places.mostVertices →

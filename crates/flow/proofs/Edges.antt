@@ -47,25 +47,25 @@ module _ {l begins : List ℕ} {u : ℕ} (edges : EdgesFrom l begins u) where
   pub from-first : (j : ℕ) → from (problemOf l) j ≡ u → getD begins u 0 ≤ j
   from-first j e =
       by-order j (getD begins u 0)
-      (λ low. absurd (omega (arith, edges .starts .at u (omega (arith, start-small)) .lower j low)))
+      (λ low. absurd (omega (arith, edges .starts .at u (omega (arith, edges .there)) .lower j low)))
       (λ le. le)
 
   pub to-last : (j : ℕ) → j < length (edgesOf (problemOf l)) → from (problemOf l) j ≡ u → j < getD begins (u + 1) 0
   to-last j lt e =
       by-order j (getD begins (u + 1) 0)
       (λ low. low)
-      (λ le. absurd (omega (arith, edges .starts .at (u + 1) (omega (arith, start-small)) .rest j le lt)))
+      (λ le. absurd (omega (arith, edges .starts .at (u + 1) (omega (arith, edges .there)) .rest j le lt)))
 
   pub edge-from : (i : ℕ) → getD begins u 0 ≤ i → i < getD begins (u + 1) 0 → EdgeFrom l u i
   edge-from i low high =
-      let here : i < length (edgesOf (problemOf l)) = omega (arith, edges .starts .at (u + 1) (omega (arith, start-small)) .inside) in
+      let here : i < length (edgesOf (problemOf l)) = omega (arith, edges .starts .at (u + 1) (omega (arith, edges .there)) .inside) in
       record {
         here = here;
         few = edge-small l (facts l (edges .checked)) i here;
         from-u = omega (
           arith,
-          edges .starts .at u (omega (arith, start-small)) .rest i low here,
-          edges .starts .at (u + 1) (omega (arith, start-small)) .lower i high,
+          edges .starts .at u (omega (arith, edges .there)) .rest i low here,
+          edges .starts .at (u + 1) (omega (arith, edges .there)) .lower i high,
         );
         end-small = to-small l (facts l (edges .checked)) i here;
       }

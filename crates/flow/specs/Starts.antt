@@ -28,4 +28,4 @@ module _ (p : Problem) where
     pub rest : (j : ℕ) → i ≤ j → j < length (edgesOf p) → u ≤ from j
 
   pub record Starts (begins : List ℕ) : Type 0 where
-    pub at : (u : ℕ) → u ≤ places.mostVertices → Begins u (getD begins u 0)
+    pub at : (u : ℕ) → u ≤ p .«vertex_count» → Begins u (getD begins u 0)

@@ -42,9 +42,10 @@ pub fn starts(l: &Numbers) -> Begins
     requires { ⌜ Checked (now l) ⌝ }
     ensures { λ r. ⌜ Starts (problemOf (now (l .entry))) r ⌝ }
 {
+    let count = lookup::vertex_count(l);
     let mut begins = ends(l);
     let mut u: usize = 0;
-    while u < places::MOST_VERTICES {
+    while u < count {
         begins[u + 1] = larger(begins[u + 1], begins[u]);
         u += 1;
     }

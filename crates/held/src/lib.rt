@@ -10,6 +10,7 @@ ghost use lib.ListN.{length};
 ghost use Rattle.model.specs.Numbers.{problemOf};
 ghost use Rattle.model.specs.Operations.{Checked};
 ghost use Rattle.bits.specs.Words.{Sound};
+ghost use Rattle.flow.specs.Starts.{Starts};
 ghost use Rattle.flow.specs.Rounds.{Underway, Visited, Swept, Closed};
 ghost use Rattle.held.specs.Flow.{Shown, heldFlow, HeldTable};
 ghost use Rattle.model.specs.Places as places;
@@ -68,27 +69,33 @@ fn sweep_held(
 }
 
 // Sweeps until nothing changes.
-fn close_held(l: &Numbers, rivals: &[u32; places::MOST_FUNCTIONS], held: &mut [u32])
-    requires { ⌜ Checked (now l) ⌝ ∗ ⌜ length (now held) ≡ places.mostVertices ⌝ ∗ ⌜ Sound (Shown (problemOf (now l)) (now rivals)) (now held) ⌝ }
+fn close_held(
+    l: &Numbers,
+    begins: &Begins,
+    rivals: &[u32; places::MOST_FUNCTIONS],
+    held: &mut [u32],
+)
+    requires { ⌜ Checked (now l) ⌝ ∗ ⌜ Starts (problemOf (now l)) (now begins) ⌝ }
+    requires { ⌜ length (now held) ≡ places.mostVertices ⌝ ∗ ⌜ Sound (Shown (problemOf (now l)) (now rivals)) (now held) ⌝ }
     ensures { λ _. ⌜ Closed (heldFlow (problemOf (now (l .entry))) (now (rivals .entry))) (now (held .entry)) (now (held .exit)) ⌝ }
 {
-    let begins = flow::starts(l);
     let mut marks = [true; places::MOST_VERTICES];
     let mut changed = true;
     while changed {
-        changed = sweep_held(l, &begins, rivals, held, &mut marks);
+        changed = sweep_held(l, begins, rivals, held, &mut marks);
     }
 }
 
 // For each vertex the functions that a walk may find held as it arrives there.
 pub fn may_hold(
     l: &Numbers,
+    begins: &Begins,
     rivals: &[u32; places::MOST_FUNCTIONS],
     held: &mut [u32; places::MOST_VERTICES],
 )
-    requires { ⌜ Checked (now l) ⌝ }
+    requires { ⌜ Checked (now l) ⌝ ∗ ⌜ Starts (problemOf (now l)) (now begins) ⌝ }
     ensures { λ _. ⌜ HeldTable (problemOf (now (l .entry))) (now (rivals .entry)) (now (held .exit)) ⌝ }
 {
     *held = [0u32; places::MOST_VERTICES];
-    close_held(l, rivals, held);
+    close_held(l, begins, rivals, held);
 }

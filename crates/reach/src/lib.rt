@@ -9,6 +9,7 @@ ghost use lib.ListN.{length};
 ghost use Rattle.model.specs.Numbers.{problemOf};
 ghost use Rattle.model.specs.Operations.{Checked};
 ghost use Rattle.bits.specs.Words.{Sound};
+ghost use Rattle.flow.specs.Starts.{Starts};
 ghost use Rattle.flow.specs.Rounds.{Underway, Visited, Swept, Closed};
 ghost use Rattle.reach.specs.Fresh.{IsFresh, freshFlow, FreshTable};
 ghost use Rattle.model.specs.Places as places;
@@ -50,24 +51,24 @@ fn sweep_fresh(l: &Numbers, starts: &Begins, fresh: &mut [u32], marks: &mut Mark
     changed
 }
 
-fn close_fresh(l: &Numbers, fresh: &mut [u32])
-    requires { ⌜ Checked (now l) ⌝ ∗ ⌜ length (now fresh) ≡ places.mostVertices ⌝ ∗ ⌜ Sound (IsFresh (problemOf (now l))) (now fresh) ⌝ }
+fn close_fresh(l: &Numbers, begins: &Begins, fresh: &mut [u32])
+    requires { ⌜ Checked (now l) ⌝ ∗ ⌜ Starts (problemOf (now l)) (now begins) ⌝ }
+    requires { ⌜ length (now fresh) ≡ places.mostVertices ⌝ ∗ ⌜ Sound (IsFresh (problemOf (now l))) (now fresh) ⌝ }
     ensures { λ _. ⌜ Closed (freshFlow (problemOf (now (l .entry)))) (now (fresh .entry)) (now (fresh .exit)) ⌝ }
 {
-    let begins = flow::starts(l);
     let mut marks = [true; places::MOST_VERTICES];
     let mut changed = true;
     while changed {
-        changed = sweep_fresh(l, &begins, fresh, &mut marks);
+        changed = sweep_fresh(l, begins, fresh, &mut marks);
     }
 }
 
 // First reach: for each vertex the functions f such that some walk arrives there with no earlier vertex of f.
-pub fn first_reach(l: &Numbers, fresh: &mut [u32; places::MOST_VERTICES])
-    requires { ⌜ Checked (now l) ⌝ }
+pub fn first_reach(l: &Numbers, begins: &Begins, fresh: &mut [u32; places::MOST_VERTICES])
+    requires { ⌜ Checked (now l) ⌝ ∗ ⌜ Starts (problemOf (now l)) (now begins) ⌝ }
     ensures { λ _. ⌜ FreshTable (problemOf (now (l .entry))) (now (fresh .exit)) ⌝ }
 {
     *fresh = [0u32; places::MOST_VERTICES];
     fresh[0] = bits::below(lookup::function_count(l));
-    close_fresh(l, fresh);
+    close_fresh(l, begins, fresh);
 }

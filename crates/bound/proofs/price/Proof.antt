@@ -12,10 +12,13 @@ use Rattle.bound.proofs.price.Tie as tie
 abbrev start : tie.After-fill-rivals → tie.Start
 start c = c .before .before .before
 
-abbrev rivals : tie.After-may-hold → tie.After-fill-rivals
-rivals c = c .before .before .before
+abbrev rivals : tie.After-starts → tie.After-fill-rivals
+rivals c = c .before
 
-abbrev held : tie.After-first-reach → tie.After-may-hold
+abbrev begins : tie.After-held → tie.After-starts
+begins c = c .before .before .before
+
+abbrev held : tie.After-fresh → tie.After-may-hold
 held c = c .before .before
 
 abbrev fresh : tie.After-mark-contested → tie.After-first-reach
@@ -31,7 +34,7 @@ abbrev cold : tie.After-charge2 → tie.After-cold-functions
 cold c = c .before .before
 
 abbrev begun : tie.After-charge2 → tie.Start
-begun c = start (rivals (held (fresh (flags (charge (cold c))))))
+begun c = start (rivals (begins (held (fresh (flags (charge (cold c))) .before) .before)))
 
 computed : (c : tie.After-greatest-charges) →
     Computed (begun (c .before) .args .l .now) (begun (c .before) .args .layout .now) (flags (charge (cold (c .before))) .mark-contested .result)
@@ -48,8 +51,8 @@ computed c =
       flags = _;
       charge = _;
       coldest = _;
-      is-rivals = rivals (held in-fresh) .fill-rivals .ensures;
-      is-held = held in-fresh .may-hold .ensures;
+      is-rivals = rivals (begins (held (in-fresh .before) .before)) .fill-rivals .ensures;
+      is-held = held (in-fresh .before) .may-hold .ensures;
       is-fresh = in-fresh .first-reach .ensures;
       tallied = in-flags .mark-contested .ensures;
       charged = in-charge .fill-charges .ensures;
@@ -61,11 +64,14 @@ computed c =
 fill-rivals-requires : tie.Need-fill-rivals-requires
 fill-rivals-requires c κs = search needs
 
+starts-requires : tie.Need-starts-requires
+starts-requires c κs = search needs
+
 may-hold-requires : tie.Need-may-hold-requires
-may-hold-requires c κs = search needs
+may-hold-requires c κs = let s = begins c in (start (rivals s) .pre .0, s .starts .ensures)
 
 first-reach-requires : tie.Need-first-reach-requires
-first-reach-requires c κs = search needs
+first-reach-requires c κs = let s = begins (held c .before) in (start (rivals s) .pre .0, s .starts .ensures)
 
 mark-contested-requires : tie.Need-mark-contested-requires
 mark-contested-requires c κs = search needs
@@ -77,7 +83,7 @@ cold-functions-requires : tie.Need-cold-functions-requires
 cold-functions-requires c κs = search needs
 
 first-loads-requires : tie.Need-first-loads-requires
-first-loads-requires c κs = search needs
+first-loads-requires c κs = start (rivals (begins (held (fresh (flags (charge c)) .before) .before))) .pre .0
 
 greatest-charges-requires : tie.Need-greatest-charges-requires
 greatest-charges-requires c κs = (begun c .pre .0, record { most = λ k. omega (arith, charge (cold c) .fill-charges .ensures .small k) })
@@ -95,6 +101,7 @@ price-spec =
     tie.close
     (tie.spec
     fill-rivals-requires
+    starts-requires
     may-hold-requires
     first-reach-requires
     mark-contested-requires

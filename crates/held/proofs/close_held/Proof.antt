@@ -8,25 +8,22 @@ use Rattle.held.proofs.close_held.Tie as tie
 use Rattle.model.specs.Places as places
 
 abbrev Inv-loop : tie.InvT-loop
-Inv-loop l rivals held₀ begins marks₀ changed₀ held marks changed = Closing l (heldFlow (problemOf l) rivals) begins held₀ marks held changed
+Inv-loop l begins rivals held₀ marks₀ changed₀ held marks changed = Closing l (heldFlow (problemOf l) rivals) begins held₀ marks held changed
 
 abbrev μ-loop : tie.MeasureT-loop
-μ-loop l rivals held₀ begins marks₀ changed₀ held marks changed = room places.mostVertices held changed
-
-starts-requires : tie.Need-starts-requires Inv-loop μ-loop
-starts-requires c κs = c .before .pre .0
+μ-loop l begins rivals held₀ marks₀ changed₀ held marks changed = room places.mostVertices held changed
 
 loop-holds : tie.Need-loop-holds Inv-loop μ-loop
-loop-holds c = not-begun _ (c .before .before .pre .0) (c .starts .ensures) (c .before .before .pre .1 .0) (c .before .before .pre .1 .1)
+loop-holds c = let given = c .before .pre in not-begun _ (given .0) (given .1 .0) (given .1 .1 .0) (given .1 .1 .1)
 
 sweep-held-requires : tie.Need-sweep-held-requires Inv-loop μ-loop
-sweep-held-requires c κs = c .before .before .before .before .loop .inv .underway
+sweep-held-requires c κs = c .before .before .before .loop .inv .underway
 
 abbrev swept : tie.After-slice-known2 Inv-loop μ-loop → tie.After-sweep-held Inv-loop μ-loop
 swept c = c .before .before
 
 abbrev turn-of : tie.After-sweep-held Inv-loop μ-loop → tie.In-loop Inv-loop μ-loop
-turn-of c = c .before .before .before .before
+turn-of c = c .before .before .before
 
 loop-less : tie.Need-loop-less Inv-loop μ-loop
 loop-less c = falls (turn-of (swept c) .loop-test .taken) (swept c .sweep-held .ensures) (λ i. omega (arith, c .slice-known2 .given i))
@@ -46,7 +43,6 @@ close-held-spec =
     (tie.spec
     Inv-loop
     μ-loop
-    starts-requires
     loop-holds
     sweep-held-requires
     loop-less

@@ -5,10 +5,10 @@ use Rattle.held.proofs.may_hold.Statement.{statement}
 use Rattle.held.proofs.may_hold.Tie as tie
 
 close-held-requires : tie.Need-close-held-requires
-close-held-requires c κs = (c .before .before .pre, (refl, held-begun _ (c .before .before .pre) _))
+close-held-requires c κs = let given = c .before .before .pre in (given .0, (given .1, (refl, held-begun _ (given .0) _)))
 
 returns : tie.Need-returns
-returns c = held-table _ (c .before .before .before .pre) _ _ (c .close-held .ensures)
+returns c = held-table _ (c .before .before .before .pre .0) _ _ (c .close-held .ensures)
 
 pub may-hold-spec : {M : Type 1} → statement M
 may-hold-spec = tie.close (tie.spec close-held-requires returns)

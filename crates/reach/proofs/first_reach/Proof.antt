@@ -13,7 +13,7 @@ function-count-requires c κs = search needs
 
 below-requires : tie.Need-below-requires
 below-requires c κs =
-    let ok = facts _ (c .before .before .pre) in
+    let ok = facts _ (c .before .before .pre .0) in
     omega (arith, c .function-count .ensures, some-function _ ok, few-functions _ ok)
 
 element-write-fresh : tie.Need-element-write-fresh
@@ -23,7 +23,9 @@ abbrev entry : tie.After-below → tie.Start
 entry c = c .before .before .before
 
 close-fresh-requires : tie.Need-close-fresh-requires
-close-fresh-requires c κs = (entry (c .before) .pre, (refl, fresh-begun (problemOf (entry (c .before) .args .l .now)) _))
+close-fresh-requires c κs =
+    let given = entry (c .before) .pre in
+    (given .0, (given .1, (refl, fresh-begun (problemOf (entry (c .before) .args .l .now)) _)))
 
 abbrev begun : tie.After-close-fresh → tie.After-below
 begun c = c .before .before
