@@ -154,8 +154,9 @@ uint32_t examiner_run(const uint8_t *file, size_t file_length, const uint8_t *la
  *   EXAMINER_LOOP_COUNT       number of loops
  *   EXAMINER_LOOPS            EXAMINER_MOST_LOOPS times: header, last, bound
  *
- * Places past a count are spare: they may have any value and are no part of the problem. Bytes of `out` past the file keep their
- * values.
+ * Each number has 32 bits, the most that a number of the file may have: inside the library a record's numbers have 64 bits, and a
+ * record with a larger number cannot be given here. Places past a count are spare: they may have any value and are no part of the
+ * problem. Bytes of `out` past the file keep their values.
  *
  * On 0: answer[0] the bytes written.
  * Refusals: 3 and 4 in file order, placed by the bytes it would write; then 6, 7, 8, 9; last 10 (bytes needed).

@@ -55,8 +55,9 @@ pub struct Loop {
 
 /// A problem, lawful or not: what [`write_fields`](crate::write_fields) judges and writes.
 ///
-/// Only as many items of each list count as its number says. The places behind them are spare: they may have any value and are no
-/// part of the problem.
+/// Each number has 32 bits, the most that a number of the file may have: inside the library a record's numbers have 64 bits, and a
+/// record with a larger number cannot be given here. Only as many items of each list count as its number says. The places behind
+/// them are spare: they may have any value and are no part of the problem.
 #[derive(Clone, Debug, PartialEq, Eq, Hash)]
 #[repr(C)]
 pub struct Fields {
