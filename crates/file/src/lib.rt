@@ -61,10 +61,10 @@ fn check(numbers: &Numbers) -> FieldsAnswer
         return fields;
     };
     let graph = graph::judge(numbers);
-    match graph {
-        Verdict::Accepted => FieldsAnswer::Done(need),
-        Verdict::Refused(refusal) => FieldsAnswer::Refused(refusal),
-    }
+    let Verdict::Accepted = graph else {
+        return FieldsAnswer::Refused(model::refusal_in(graph));
+    };
+    FieldsAnswer::Done(need)
 }
 
 // The same, for an operation that has no use for the length.

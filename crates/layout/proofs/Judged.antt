@@ -1,20 +1,25 @@
 -- What the regions of a checked problem's layout come to at most, and the refusals 11 to 13 as answers.
-use Prim.Native.Nat.{ℕ, _+_, _-_, _*_, _≤_, _<_}
-use mathlib.Core.Path.{_≡_}
+use Prim.Native.Nat.{ℕ, _+_, _*_, _≤_, _<_}
+use mathlib.Core.Path.{_≡_, refl, sym, ap, _∙_}
 use mathlib.Core.List.{List}
+use mathlib.Core.Bool.{cond}
 use native.Mathlib.Omega.{arith}
 use lib.ListN.{length}
 use lib.Dec.{eqb, ltb}
 use borrow.Author.Tests.{lt-ltb, le-ltb}
-use Rattle.model.specs.declared.Refusal.the-variants.{LayoutTooLong, UnknownRegion, ScratchpadTooSmall}
+use Rattle.model.specs.declared.Refusal.{Refusal}
+use Rattle.model.specs.declared.Verdict.{Verdict}
+use Rattle.model.specs.declared.Verdict.the-variants as verdict
+use Rattle.model.specs.declared.Bytes.{Bytes}
 use Rattle.model.specs.declared.Problem.{Problem}
 use Rattle.model.specs.Zero.{bytes}
 use Rattle.model.specs.Numbers.{problemOf}
 use Rattle.model.specs.Operations.{Checked}
-use Rattle.model.specs.Search.{lowestBelow}
+use Rattle.model.specs.Graph.{andThen}
 use Rattle.model.specs.Costs.{total}
-use Rattle.model.specs.Layouts.{regionOf, largestIn, needOf, judgeLayout}
+use Rattle.model.specs.Layouts.{regionOf, largestIn, needOf, judgeLength, judgeRegions, judgeNeed, judgeLayout}
 use Rattle.model.proofs.Cases.{by-cond}
+use Rattle.layout.specs.declared.LayoutAnswer.{LayoutAnswer}
 use Rattle.layout.specs.declared.LayoutAnswer.the-variants.{Fits, Refused}
 use Rattle.layout.specs.Answers.{layoutAnswer}
 use Rattle.lookup.proofs.Places.{facts, size-high}
@@ -37,24 +42,38 @@ module _ (l : List ℕ) (checked : Checked l) (layout : List ℕ) where
         total-high (largestIn (problemOf l) layout) r limits.mostBytes (λ k h. largest-in-high k),
       )
 
--- The three checks in order, for whoever has the numbers that they compare.
-module _ (p : Problem) (layout : List ℕ) {count : ℕ} (counted : count ≡ p .«function_count») where
-  pub long-layout : count < length layout → Refused (LayoutTooLong count) ≡ layoutAnswer (judgeLayout p layout) (needOf p layout)
+-- A check that refuses where a number, here known as n, is below another.
+module _ {a n b : ℕ} (is : a ≡ n) (refusal : ℕ → Refusal) where
+  pub below : a < b → verdict.Refused (refusal a) ≡ cond (ltb n b) (verdict.Refused (refusal n)) verdict.Accepted
+  below h = rw (← is, lt-ltb a b h)
+
+  pub not-below : b ≤ a → verdict.Accepted ≡ cond (ltb n b) (verdict.Refused (refusal n)) verdict.Accepted
+  not-below h = rw (← is, le-ltb a b h)
+
+-- The three in order: one that refuses is the answer, and on the good case of each the next goes on.
+module _ (p : Problem) (layout : List ℕ) where
+  abbrev answered : LayoutAnswer
+  answered = layoutAnswer (judgeLayout p layout) (needOf p layout)
+
+  in-order : (u v w : Verdict) → u ≡ judgeLength p layout → v ≡ judgeRegions p layout → w ≡ judgeNeed p (needOf p layout) →
+      layoutAnswer (andThen u (andThen v w)) (needOf p layout) ≡ answered
   unfolding judgeLayout
-  long-layout over = rw (← counted, lt-ltb count (length layout) over)
+  in-order u v w first second third = rw (first, second, third)
 
-  module _ (short : length layout ≤ count) {unknown : ℕ} (searched : unknown ≡ lowestBelow (p .«function_count») (λ f. ltb (limits.mostRegions - 1) (regionOf layout f))) where
-    pub unknown-region : unknown < count → Refused (UnknownRegion unknown) ≡ layoutAnswer (judgeLayout p layout) (needOf p layout)
-    unfolding judgeLayout
-    unknown-region below = rw (← searched, ← counted, le-ltb count (length layout) short, lt-ltb unknown count below)
+  module _ {u : Verdict} (first : u ≡ judgeLength p layout) where
+    pub bad-length : {f : Refusal} → u ≡ verdict.Refused f → Refused f ≡ answered
+    bad-length e = in-order (verdict.Refused _) _ _ (sym e ∙ first) refl refl
 
-    module _ (known : count ≤ unknown) {pad need : ℕ} (padded : pad ≡ p .scratchpad .0) (needed : need ≡ needOf p layout) where
-      pub scratchpad-full : pad < need → Refused (ScratchpadTooSmall need) ≡ layoutAnswer (judgeLayout p layout) (needOf p layout)
-      unfolding judgeLayout
-      scratchpad-full over =
-          rw (← needed, ← padded, ← searched, ← counted, le-ltb count (length layout) short, le-ltb unknown count known, lt-ltb pad need over)
+    module _ (good : u ≡ verdict.Accepted) {v : Verdict} (second : v ≡ judgeRegions p layout) where
+      pub bad-region : {f : Refusal} → v ≡ verdict.Refused f → Refused f ≡ answered
+      bad-region e = in-order verdict.Accepted (verdict.Refused _) _ (sym good ∙ first) (sym e ∙ second) refl
 
-      pub fits : need ≤ pad → Fits (bytes need) ≡ layoutAnswer (judgeLayout p layout) (needOf p layout)
-      unfolding judgeLayout
-      fits within =
-          rw (← needed, ← padded, ← searched, ← counted, le-ltb count (length layout) short, le-ltb unknown count known, le-ltb pad need within)
+      module _ (known : v ≡ verdict.Accepted) {need : Bytes} (needed : need .0 ≡ needOf p layout) {w : Verdict} (third : w ≡ judgeNeed p (need .0)) where
+        last : (x : Verdict) → w ≡ x → layoutAnswer x (needOf p layout) ≡ answered
+        last x e = in-order verdict.Accepted verdict.Accepted x (sym good ∙ first) (sym known ∙ second) (sym e ∙ third ∙ ap (judgeNeed p) needed)
+
+        pub too-large : {f : Refusal} → w ≡ verdict.Refused f → Refused f ≡ answered
+        too-large e = last (verdict.Refused _) e
+
+        pub fits : w ≡ verdict.Accepted → Fits need ≡ answered
+        fits e = ap (λ (n : ℕ). Fits (bytes n)) needed ∙ last verdict.Accepted e

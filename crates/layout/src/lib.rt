@@ -6,14 +6,11 @@ use model::Verdict;
 use model::limits;
 use model::units;
 ghost use mathlib.Core.Path.{_≡_};
-ghost use Prim.Native.Nat.{_-_};
 ghost use lib.ListN.{length};
-ghost use lib.Dec.{ltb};
 ghost use Rattle.model.specs.Limits.{mostRegions};
 ghost use Rattle.model.specs.Numbers.{problemOf};
 ghost use Rattle.model.specs.Operations.{Checked};
-ghost use Rattle.model.specs.Search.{lowestBelow};
-ghost use Rattle.model.specs.Layouts.{regionOf, needOf, judgeLayout};
+ghost use Rattle.model.specs.Layouts.{regionOf, needOf, judgeLength, judgeRegions, judgeNeed, judgeLayout};
 ghost use Rattle.layout.specs.Answers.{layoutAnswer, layoutVerdict};
 ghost use Rattle.layout.specs.Sizes.{Enlarged, LargestSizes};
 
@@ -79,19 +76,40 @@ pub fn need(l: &Numbers, layout: &[u8]) -> Bytes
     needed
 }
 
-// The lowest function whose region is above the last, or the number of functions.
-fn lowest_unknown(l: &Numbers, layout: &[u8]) -> usize
-    ensures { λ r. ⌜ r ≡ lowestBelow (problemOf (now (l .entry)) .«function_count») (λ f. ltb (mostRegions - 1) (regionOf (now (layout .entry)) f)) ⌝ }
+// 11: longer than the functions.
+fn judge_length(l: &Numbers, layout: &[u8]) -> Verdict
+    ensures { λ r. ⌜ r ≡ judgeLength (problemOf (now (l .entry))) (now (layout .entry)) ⌝ }
+{
+    let count = lookup::function_count(l);
+    if count < layout.len() {
+        return Verdict::Refused(Refusal::LayoutTooLong(count as u64));
+    }
+    Verdict::Accepted
+}
+
+// 12: a region above the last.
+fn judge_regions(l: &Numbers, layout: &[u8]) -> Verdict
+    ensures { λ r. ⌜ r ≡ judgeRegions (problemOf (now (l .entry))) (now (layout .entry)) ⌝ }
 {
     let count = lookup::function_count(l);
     let mut f: usize = 0;
     while f < count {
         if LAST_REGION < region_of(layout, f) {
-            return f;
+            return Verdict::Refused(Refusal::UnknownRegion(f as u64));
         }
         f += 1;
     }
-    count
+    Verdict::Accepted
+}
+
+// 13: more bytes needed than the scratchpad has.
+fn judge_need(l: &Numbers, needed: Bytes) -> Verdict
+    ensures { λ r. ⌜ r ≡ judgeNeed (problemOf (now (l .entry))) (needed .0) ⌝ }
+{
+    if lookup::scratchpad(l).0 < needed.0 {
+        return Verdict::Refused(Refusal::ScratchpadTooSmall(needed.0));
+    }
+    Verdict::Accepted
 }
 
 // 11, 12 and 13, each on the good case of the one before.
@@ -99,18 +117,19 @@ pub fn judge(l: &Numbers, layout: &[u8]) -> LayoutAnswer
     requires { ⌜ Checked (now l) ⌝ }
     ensures { λ r. ⌜ r ≡ layoutAnswer (judgeLayout (problemOf (now (l .entry))) (now (layout .entry))) (needOf (problemOf (now (l .entry))) (now (layout .entry))) ⌝ }
 {
-    let count = lookup::function_count(l);
-    if count < layout.len() {
-        return LayoutAnswer::Refused(Refusal::LayoutTooLong(count as u64));
-    }
-    let unknown = lowest_unknown(l, layout);
-    if unknown < count {
-        return LayoutAnswer::Refused(Refusal::UnknownRegion(unknown as u64));
-    }
+    let length = judge_length(l, layout);
+    let Verdict::Accepted = length else {
+        return LayoutAnswer::Refused(model::refusal_in(length));
+    };
+    let regions = judge_regions(l, layout);
+    let Verdict::Accepted = regions else {
+        return LayoutAnswer::Refused(model::refusal_in(regions));
+    };
     let needed = need(l, layout);
-    if lookup::scratchpad(l).0 < needed.0 {
-        return LayoutAnswer::Refused(Refusal::ScratchpadTooSmall(needed.0));
-    }
+    let room = judge_need(l, needed);
+    let Verdict::Accepted = room else {
+        return LayoutAnswer::Refused(model::refusal_in(room));
+    };
     LayoutAnswer::Fits(needed)
 }
 

@@ -24,9 +24,17 @@ largestIn p layout r = largest (p .«function_count») (λ f. cond (eqb (regionO
 unfoldable pub needOf : Problem → List ℕ → ℕ
 needOf p layout = total mostRegions (largestIn p layout)
 
--- 11, longer than the functions (their number); 12, a region above 31 (lowest function); 13, it needs more than the scratchpad (bytes needed).
+-- 11, longer than the functions (their number).
+abbrev pub judgeLength : Problem → List ℕ → Verdict
+judgeLength p layout = cond (ltb (p .«function_count») (length layout)) (Refused (LayoutTooLong (p .«function_count»))) Accepted
+
+-- 12, a region above 31 (lowest function).
+abbrev pub judgeRegions : Problem → List ℕ → Verdict
+judgeRegions p layout = broken (p .«function_count») (λ f. ltb (mostRegions - 1) (regionOf layout f)) UnknownRegion
+
+-- 13, it needs more than the scratchpad (bytes needed).
+abbrev pub judgeNeed : Problem → ℕ → Verdict
+judgeNeed p need = cond (ltb (p .scratchpad .0) need) (Refused (ScratchpadTooSmall need)) Accepted
+
 unfoldable pub judgeLayout : Problem → List ℕ → Verdict
-judgeLayout p layout =
-    andThen (cond (ltb (p .«function_count») (length layout)) (Refused (LayoutTooLong (p .«function_count»))) Accepted)
-    (andThen (broken (p .«function_count») (λ f. ltb (mostRegions - 1) (regionOf layout f)) UnknownRegion)
-    (cond (ltb (p .scratchpad .0) (needOf p layout)) (Refused (ScratchpadTooSmall (needOf p layout))) Accepted))
+judgeLayout p layout = andThen (judgeLength p layout) (andThen (judgeRegions p layout) (judgeNeed p (needOf p layout)))

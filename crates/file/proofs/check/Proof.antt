@@ -1,10 +1,20 @@
--- `check` meets its definition: the fields, then the graph.
+-- `check` meets its definition: the fields, then the graph, each on the good case of the one before.
 use mathlib.Core.Path.{sym, _∙_}
 use Rattle.facts.proofs.Facts.{field-facts}
 use Rattle.file.proofs.Stages.{bad-fields, after-graph}
 use borrow.Author.Needs.{needs}
 use Rattle.file.proofs.check.Statement.{statement}
 use Rattle.file.proofs.check.Tie as tie
+
+-- The fields passed, and the graph is judged.
+abbrev passed : tie.After-judge → tie.After-check-fields
+passed c = c .before .before .before .before
+
+abbrev refused : tie.After-refusal-in → tie.After-judge
+refused c = c .before .before .before
+
+abbrev accepted : tie.After-enum-told2 → tie.After-judge
+accepted c = c .before .before
 
 check-fields-requires : tie.Need-check-fields-requires
 check-fields-requires c κs = search needs
@@ -24,21 +34,21 @@ judge-requires c κs = field-facts _ _ (sym (c .before .before .before .check-fi
 enum-told-2 : tie.Need-enum-told-2
 enum-told-2 c = search needs
 
-enum-known-graph : tie.Need-enum-known-graph
-enum-known-graph c = search needs
+enum-told-3 : tie.Need-enum-told-3
+enum-told-3 c = search needs
 
-abbrev passed : tie.After-judge → tie.After-check-fields
-passed c = c .before .before .before .before
+refusal-in-requires : tie.Need-refusal-in-requires
+refusal-in-requires c κs = (_, c .enum-told3 .given .1)
 
 returns-2 : tie.Need-returns-2
 returns-2 c =
-    let j = c .before .before in
-    after-graph _ _ (passed j .check-fields .ensures) _ (j .before .before .fields .given .1) _ (j .judge .ensures) _ (c .enum-told2 .given .1)
+    let j = refused c in
+    after-graph _ _ (passed j .check-fields .ensures) _ (j .before .before .fields .given .1) _ (j .judge .ensures) _ (c .refusal-in .ensures)
 
 returns-3 : tie.Need-returns-3
 returns-3 c =
-    let j = c .before .before .before in
-    after-graph _ _ (passed j .check-fields .ensures) _ (j .before .before .fields .given .1) _ (j .judge .ensures) _ (c .before .graph .given .1)
+    let j = accepted c in
+    after-graph _ _ (passed j .check-fields .ensures) _ (j .before .before .fields .given .1) _ (j .judge .ensures) _ (c .enum-told2 .given .1)
 
 pub check-spec : {M : Type 1} → statement M
 check-spec =
@@ -50,6 +60,7 @@ check-spec =
     returns
     judge-requires
     enum-told-2
-    enum-known-graph
+    enum-told-3
+    refusal-in-requires
     returns-2
     returns-3)

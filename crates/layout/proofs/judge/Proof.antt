@@ -1,72 +1,111 @@
 -- `layout::judge` is its definition: 11, 12 and 13, each on the good case of the one before.
 use borrow.Author.Needs.{needs}
-use Rattle.layout.proofs.Judged.{long-layout, unknown-region, scratchpad-full, fits}
+use Rattle.layout.proofs.Judged.{bad-length, bad-region, too-large, fits}
 use Rattle.layout.proofs.judge.Statement.{statement}
 use Rattle.layout.proofs.judge.Tie as tie
 
--- The bytes needed stand against the scratchpad, once the layout is short and its regions are known.
-abbrev Weighed : Type 0
-Weighed = tie.After-struct-known2
+-- The layout is short enough.
+abbrev measured : tie.After-enum-told → tie.After-judge-length
+measured c = c .before .before
 
-abbrev padded : Weighed → tie.After-scratchpad
-padded c = c .before .before
+-- Its regions are known.
+abbrev short : tie.After-judge-regions → tie.After-enum-told
+short c = c .before
 
-abbrev needed : Weighed → tie.After-need
-needed c = padded c .before
+abbrev searched : tie.After-enum-told3 → tie.After-judge-regions
+searched c = c .before .before
 
-abbrev known : Weighed → tie.Else2
+-- Its bytes are weighed.
+abbrev needed : tie.After-judge-need → tie.After-need
+needed c = c .before
+
+abbrev known : tie.After-judge-need → tie.After-enum-told3
 known c = needed c .before
 
-abbrev searched : Weighed → tie.After-lowest-unknown
-searched c = known c .before
+judge-length-requires : tie.Need-judge-length-requires
+judge-length-requires c κs = search needs
 
-abbrev short : Weighed → tie.Else1
-short c = searched c .before
+enum-told : tie.Need-enum-told
+enum-told c = search needs
 
-abbrev counted : Weighed → tie.After-function-count
-counted c = short c .before
+enum-told-2 : tie.Need-enum-told-2
+enum-told-2 c = search needs
 
-function-count-requires : tie.Need-function-count-requires
-function-count-requires c κs = search needs
+refusal-in-requires : tie.Need-refusal-in-requires
+refusal-in-requires c κs = (_, c .enum-told2 .given .1)
 
 returns : tie.Need-returns
-returns c = long-layout _ _ (c .before .function-count .ensures) (c .if1 .taken)
+returns c = bad-length _ _ (c .before .before .before .judge-length .ensures) (c .refusal-in .ensures)
 
-lowest-unknown-requires : tie.Need-lowest-unknown-requires
-lowest-unknown-requires c κs = search needs
+judge-regions-requires : tie.Need-judge-regions-requires
+judge-regions-requires c κs = search needs
+
+enum-told-3 : tie.Need-enum-told-3
+enum-told-3 c = search needs
+
+enum-told-4 : tie.Need-enum-told-4
+enum-told-4 c = search needs
+
+refusal-in-requires-2 : tie.Need-refusal-in-requires-2
+refusal-in-requires-2 c κs = (_, c .enum-told4 .given .1)
 
 returns-2 : tie.Need-returns-2
 returns-2 c =
-    unknown-region _ _ (c .before .before .before .function-count .ensures) (c .before .before .if1 .left)
-    (c .before .lowest-unknown .ensures) (c .if2 .taken)
+    let r = c .before .before .before in
+    let s = short r in
+    bad-region _ _ (measured s .judge-length .ensures) (s .enum-told .given .1) (r .judge-regions .ensures) (c .refusal-in2 .ensures)
 
 need-requires : tie.Need-need-requires
 need-requires c κs = search needs
 
-scratchpad-requires : tie.Need-scratchpad-requires
-scratchpad-requires c κs = search needs
+judge-need-requires : tie.Need-judge-need-requires
+judge-need-requires c κs = search needs
+
+enum-told-5 : tie.Need-enum-told-5
+enum-told-5 c = search needs
+
+enum-told-6 : tie.Need-enum-told-6
+enum-told-6 c = search needs
+
+refusal-in-requires-3 : tie.Need-refusal-in-requires-3
+refusal-in-requires-3 c κs = (_, c .enum-told6 .given .1)
 
 returns-3 : tie.Need-returns-3
 returns-3 c =
-    let w = c .before in
-    scratchpad-full _ _ (counted w .function-count .ensures) (short w .if1 .left) (searched w .lowest-unknown .ensures) (known w .if2 .left)
-    (padded w .scratchpad .ensures) (needed w .need .ensures) (c .if3 .taken)
+    let w = c .before .before .before in
+    let k = known w in
+    let r = searched k in
+    let s = short r in
+    too-large _ _ (measured s .judge-length .ensures) (s .enum-told .given .1) (r .judge-regions .ensures) (k .enum-told3 .given .1)
+    (needed w .need .ensures) (w .judge-need .ensures) (c .refusal-in3 .ensures)
 
 returns-4 : tie.Need-returns-4
 returns-4 c =
-    let w = c .before in
-    fits _ _ (counted w .function-count .ensures) (short w .if1 .left) (searched w .lowest-unknown .ensures) (known w .if2 .left)
-    (padded w .scratchpad .ensures) (needed w .need .ensures) (c .if3 .left)
+    let w = c .before .before in
+    let k = known w in
+    let r = searched k in
+    let s = short r in
+    fits _ _ (measured s .judge-length .ensures) (s .enum-told .given .1) (r .judge-regions .ensures) (k .enum-told3 .given .1)
+    (needed w .need .ensures) (w .judge-need .ensures) (c .enum-told5 .given .1)
 
 pub judge-spec : {M : Type 1} → statement M
 judge-spec =
     tie.close
     (tie.spec
-    function-count-requires
+    judge-length-requires
+    enum-told
+    enum-told-2
+    refusal-in-requires
     returns
-    lowest-unknown-requires
+    judge-regions-requires
+    enum-told-3
+    enum-told-4
+    refusal-in-requires-2
     returns-2
     need-requires
-    scratchpad-requires
+    judge-need-requires
+    enum-told-5
+    enum-told-6
+    refusal-in-requires-3
     returns-3
     returns-4)

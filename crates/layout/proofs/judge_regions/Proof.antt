@@ -1,16 +1,16 @@
--- `layout::lowest_unknown` is the search for the lowest function with a region above the last.
+-- `layout::judge_regions` is its definition, 12: the lowest function with a region above the last is refused.
 use Prim.Native.Nat.{_-_}
-use mathlib.Core.Path.{_∙_}
 use native.Mathlib.Omega.{arith}
 use borrow.Author.Needs.{needs}
 use borrow.Author.Tests.{lt-ltb, le-ltb}
 use lib.Dec.{ltb}
+use Rattle.model.specs.declared.Refusal.the-variants.{UnknownRegion}
 use Rattle.model.specs.Limits.{mostRegions}
 use Rattle.model.specs.Numbers.{problemOf}
 use Rattle.model.specs.Layouts.{regionOf}
-use Rattle.model.proofs.Search.{Searched, start, miss, hit, none}
-use Rattle.layout.proofs.lowest_unknown.Statement.{statement}
-use Rattle.layout.proofs.lowest_unknown.Tie as tie
+use Rattle.model.proofs.Search.{Searched, start, miss, broken-hit, broken-none}
+use Rattle.layout.proofs.judge_regions.Statement.{statement}
+use Rattle.layout.proofs.judge_regions.Tie as tie
 
 abbrev Inv-loop : tie.InvT-loop
 Inv-loop l layout count f₀ f = Searched (problemOf l .«function_count») (λ g. ltb (mostRegions - 1) (regionOf layout g)) f
@@ -29,7 +29,7 @@ region-of-requires c κs = search needs
 
 returns : tie.Need-returns Inv-loop μ-loop
 returns c =
-    hit (c .before .before .before .loop .inv) (omega arith)
+    broken-hit (c .before .before .before .loop .inv) (omega arith) UnknownRegion
     (rw (← c .before .region-of .ensures) (lt-ltb (mostRegions - 1) _ (c .if1 .taken)))
 
 add-f : tie.Need-add-f Inv-loop μ-loop
@@ -44,10 +44,10 @@ loop-again c =
     (rw (← c .before .region-of .ensures) (le-ltb (mostRegions - 1) _ (c .if1 .left)))
 
 returns-2 : tie.Need-returns-2 Inv-loop μ-loop
-returns-2 c = c .before .before .function-count .ensures ∙ none (c .before .loop .inv) (omega arith)
+returns-2 c = broken-none (c .before .loop .inv) (omega arith) UnknownRegion
 
-pub lowest-unknown-spec : {M : Type 1} → statement M
-lowest-unknown-spec =
+pub judge-regions-spec : {M : Type 1} → statement M
+judge-regions-spec =
     tie.close
     (tie.spec
     Inv-loop
