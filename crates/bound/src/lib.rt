@@ -11,6 +11,7 @@ ghost use Rattle.model.specs.Numbers.{problemOf};
 ghost use Rattle.model.specs.Layouts.{needOf};
 ghost use Rattle.model.specs.Operations.{Checked};
 ghost use Rattle.model.specs.Results.{BoundSays};
+ghost use Rattle.model.specs.Outcomes.{boundOutcome, IsBounded};
 ghost use Rattle.layout.specs.Regions.{KnownRegions};
 ghost use Rattle.bound.specs.Priced.{Priced};
 
@@ -51,6 +52,7 @@ pub fn bound_checked(l: &Numbers, layout: &[u8]) -> BoundAnswer
 // **Bound.** Bytes needed, contested vertices, first loads and the bound, or the first refusal that applies.
 pub fn bound(problem: Problem, layout: &[u8]) -> BoundAnswer
     ensures { λ r. ⌜ BoundSays problem (now (layout .entry)) r ⌝ }
+    ensures { λ r. ⌜ IsBounded problem (now (layout .entry)) (boundOutcome r) ⌝ }
 {
     let numbers = numbers::numbers_of(problem);
     let verdict = file::judge(&numbers);

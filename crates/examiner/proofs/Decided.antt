@@ -8,8 +8,9 @@ use Rattle.model.specs.declared.ReadAnswer.the-variants as read
 use Rattle.model.specs.Operations.{readFile}
 use Rattle.bound.proofs.Decided.{bound-decided}
 use Rattle.interference.proofs.Decided.{interference-decided}
-use Rattle.outcomes.specs.Outcomes.{Outcome, Refusing, status, answerAfter, onFilled, onBounded, Right, ByRead}
-use Rattle.examiner.specs.Exports.{IsBounded, BoundOutcome, FillsWords, InterferenceOutcome}
+use Rattle.model.specs.Outcomes.{Outcome, refusalOutcome, interferenceOutcome, boundOutcome, FillsWords, IsBounded}
+use Rattle.outcomes.specs.Outcomes.{status, answerAfter, Right, ByRead}
+use Rattle.examiner.specs.Exports.{BoundTold, InterferenceTold}
 
 -- What is told of right outcomes is the same, where the outcomes are.
 told-once : (Says Says′ : Outcome → Type 0) → ((o o′ : Outcome) → Says o → Says′ o′ → o ≡ o′) → (before after after′ : List ℕ) (r r′ : ℕ) →
@@ -19,31 +20,31 @@ told-once Says Says′ once before after after′ r r′ a b =
     (a .status-is ∙ ap status same ∙ sym (b .status-is), a .answer-is ∙ ap (λ (o : Outcome). answerAfter o before) same ∙ sym (b .answer-is))
 
 module _ (layout : List ℕ) (o o′ : Outcome) where
-  bounded-once : (a : ReadAnswer) → ByRead a (λ p. IsBounded p layout o) (λ f. o ≡ Refusing f) →
-      ByRead a (λ p. IsBounded p layout o′) (λ f. o′ ≡ Refusing f) → o ≡ o′
-  bounded-once (read.Accepted p) (r, says, is) (r′, says′, is′) = is ∙ ap onBounded (bound-decided p layout r r′ says says′) ∙ sym is′
+  bounded-once : (a : ReadAnswer) → ByRead a (λ p. IsBounded p layout o) (λ f. o ≡ refusalOutcome f) →
+      ByRead a (λ p. IsBounded p layout o′) (λ f. o′ ≡ refusalOutcome f) → o ≡ o′
+  bounded-once (read.Accepted p) (r, says, is) (r′, says′, is′) = is ∙ ap boundOutcome (bound-decided p layout r r′ says says′) ∙ sym is′
   bounded-once (read.Refused f) is is′ = is ∙ sym is′
 
 pub bound-export-decided : (file layout before after after′ : List ℕ) (r r′ : ℕ) →
-    Right (BoundOutcome file layout) before after r → Right (BoundOutcome file layout) before after′ r′ → (r ≡ r′) × (after ≡ after′)
+    Right (BoundTold file layout) before after r → Right (BoundTold file layout) before after′ r′ → (r ≡ r′) × (after ≡ after′)
 bound-export-decided file layout =
-    told-once (BoundOutcome file layout) (BoundOutcome file layout) (λ o o′. bounded-once layout o o′ (readFile file))
+    told-once (BoundTold file layout) (BoundTold file layout) (λ o o′. bounded-once layout o o′ (readFile file))
 
 -- Words of 32 bits at the end.
 module _ (words end end′ : List ℕ) (small : (k : ℕ) → getD end k 0 < 2 ^ 32) (small′ : (k : ℕ) → getD end′ k 0 < 2 ^ 32) where
-  filled-once : (o o′ : Outcome) (a : ReadAnswer) → ByRead a (λ p. FillsWords p words end o) (λ f. (o ≡ Refusing f) × (end ≡ words)) →
-      ByRead a (λ p. FillsWords p words end′ o′) (λ f. (o′ ≡ Refusing f) × (end′ ≡ words)) → (o ≡ o′) × (end ≡ end′)
+  filled-once : (o o′ : Outcome) (a : ReadAnswer) → ByRead a (λ p. FillsWords p words end o) (λ f. (o ≡ refusalOutcome f) × (end ≡ words)) →
+      ByRead a (λ p. FillsWords p words end′ o′) (λ f. (o′ ≡ refusalOutcome f) × (end′ ≡ words)) → (o ≡ o′) × (end ≡ end′)
   filled-once o o′ (read.Accepted p) (r, says, is) (r′, says′, is′) =
-      let d = interference-decided p words end end′ small small′ r r′ says says′ in (is ∙ ap onFilled (d .0) ∙ sym is′, d .1)
+      let d = interference-decided p words end end′ small small′ r r′ says says′ in (is ∙ ap interferenceOutcome (d .0) ∙ sym is′, d .1)
   filled-once o o′ (read.Refused f) (is, kept) (is′, kept′) = (is ∙ sym is′, kept ∙ sym kept′)
 
   module _ (file : List ℕ) where
-    once : (o o′ : Outcome) → InterferenceOutcome file words end o → InterferenceOutcome file words end′ o′ → (o ≡ o′) × (end ≡ end′)
+    once : (o o′ : Outcome) → InterferenceTold file words end o → InterferenceTold file words end′ o′ → (o ≡ o′) × (end ≡ end′)
     once o o′ = filled-once o o′ (readFile file)
 
     pub interference-export-decided : (before after after′ : List ℕ) (r r′ : ℕ) →
-        Right (InterferenceOutcome file words end) before after r → Right (InterferenceOutcome file words end′) before after′ r′ →
+        Right (InterferenceTold file words end) before after r → Right (InterferenceTold file words end′) before after′ r′ →
         (r ≡ r′) × (after ≡ after′) × (end ≡ end′)
     interference-export-decided before after after′ r r′ a b =
-        let t = told-once (InterferenceOutcome file words end) (InterferenceOutcome file words end′) (λ o o′ x y. once o o′ x y .0) before after after′ r r′ a b in
+        let t = told-once (InterferenceTold file words end) (InterferenceTold file words end′) (λ o o′ x y. once o o′ x y .0) before after after′ r r′ a b in
         (t .0, t .1, once (a .outcome) (b .outcome) (a .says) (b .says) .1)

@@ -4,19 +4,18 @@ use mathlib.Core.Path.{_≡_}
 use mathlib.Core.List.{List, _∷_}
 use Rattle.model.specs.declared.Problem.{Problem}
 use Rattle.model.specs.Numbers.{problemOf}
-use Rattle.model.specs.Operations.{readFile, writeProblem, writtenBuffer}
-use Rattle.model.specs.declared.InterferenceAnswer.{InterferenceAnswer}
-use Rattle.model.specs.declared.BoundAnswer.{BoundAnswer}
-use Rattle.model.specs.Results.{InterferenceSays, BoundSays, runWalk, runRegions}
-use Rattle.outcomes.specs.Outcomes.{Outcome, Results, Refusing, counts, onRead, onWritten, onFilled, onBounded, onRan, ByRead}
+use Rattle.model.specs.Operations.{readFile, writtenBuffer}
+use Rattle.model.specs.Results.{runRegions}
+use Rattle.model.specs.Outcomes.{Outcome, Results, refusalOutcome, writeSays, runSays, FillsWords, IsBounded}
+use Rattle.outcomes.specs.Outcomes.{counts, onRead, ByRead}
 
 -- **examiner_read**
-abbrev pub readOutcome : List ℕ → Outcome
-readOutcome file = onRead (readFile file) (λ p. Results (counts p)) Refusing
+abbrev pub readTold : List ℕ → Outcome
+readTold file = onRead (readFile file) (λ p. Results (counts p)) refusalOutcome
 
 -- **examiner_write**, where `out` has room for that many bytes
-abbrev pub writeOutcome : List ℕ → ℕ → Outcome
-writeOutcome file room = onRead (readFile file) (λ p. onWritten (writeProblem p room)) Refusing
+abbrev pub writeTold : List ℕ → ℕ → Outcome
+writeTold file room = onRead (readFile file) (λ p. writeSays p room) refusalOutcome
 
 abbrev pub writeOut : List ℕ → List ℕ → List ℕ
 writeOut file out = onRead (readFile file) (λ p. writtenBuffer p out) (λ f. out)
@@ -25,26 +24,20 @@ writeOut file out = onRead (readFile file) (λ p. writtenBuffer p out) (λ f. ou
 abbrev pub fieldsProblem : List ℕ → Problem
 fieldsProblem fields = problemOf (1 ∷ fields)
 
-abbrev pub fieldsOutcome : List ℕ → ℕ → Outcome
-fieldsOutcome fields room = onWritten (writeProblem (fieldsProblem fields) room)
+abbrev pub fieldsTold : List ℕ → ℕ → Outcome
+fieldsTold fields room = writeSays (fieldsProblem fields) room
 
 -- **examiner_interference**, where `words` hold `after` at the end: what Interference says of the problem; on Read's refusal the words are as they were.
-abbrev pub FillsWords : Problem → List ℕ → List ℕ → Outcome → Type 0
-FillsWords p words after o = (r : InterferenceAnswer) × InterferenceSays p words after r × (o ≡ onFilled r)
-
-abbrev pub InterferenceOutcome : List ℕ → List ℕ → List ℕ → Outcome → Type 0
-InterferenceOutcome file words after o = ByRead (readFile file) (λ p. FillsWords p words after o) (λ f. (o ≡ Refusing f) × (after ≡ words))
+abbrev pub InterferenceTold : List ℕ → List ℕ → List ℕ → Outcome → Type 0
+InterferenceTold file words after o = ByRead (readFile file) (λ p. FillsWords p words after o) (λ f. (o ≡ refusalOutcome f) × (after ≡ words))
 
 -- **examiner_bound**: what Bound says of the problem and the layout.
-abbrev pub IsBounded : Problem → List ℕ → Outcome → Type 0
-IsBounded p layout o = (r : BoundAnswer) × BoundSays p layout r × (o ≡ onBounded r)
-
-abbrev pub BoundOutcome : List ℕ → List ℕ → Outcome → Type 0
-BoundOutcome file layout o = ByRead (readFile file) (λ p. IsBounded p layout o) (λ f. o ≡ Refusing f)
+abbrev pub BoundTold : List ℕ → List ℕ → Outcome → Type 0
+BoundTold file layout o = ByRead (readFile file) (λ p. IsBounded p layout o) (λ f. o ≡ refusalOutcome f)
 
 -- **examiner_run**
-abbrev pub runOutcome : List ℕ → List ℕ → List ℕ → Outcome
-runOutcome file layout walk = onRead (readFile file) (λ p. onRan (runWalk p layout walk)) Refusing
+abbrev pub runTold : List ℕ → List ℕ → List ℕ → Outcome
+runTold file layout walk = onRead (readFile file) (λ p. runSays p layout walk) refusalOutcome
 
 abbrev pub runHeld : List ℕ → List ℕ → List ℕ → List ℕ → List ℕ
 runHeld file layout walk held = onRead (readFile file) (λ p. runRegions p layout walk held) (λ f. held)

@@ -7,13 +7,13 @@ ghost use mathlib.Core.Path.{_≡_};
 ghost use lib.ListN.{length};
 ghost use Rattle.model.specs.Operations.{writtenBuffer};
 ghost use Rattle.outcomes.specs.Outcomes.{status, answerAfter, Right};
-ghost use Rattle.examiner.specs.Exports.{readOutcome, writeOutcome, writeOut, fieldsProblem, fieldsOutcome, InterferenceOutcome, BoundOutcome, runOutcome, runHeld};
+ghost use Rattle.examiner.specs.Exports.{readTold, writeTold, writeOut, fieldsProblem, fieldsTold, InterferenceTold, BoundTold, runTold, runHeld};
 
 // **Read**: the numbers of functions, vertices, edges and loops.
 #[no_mangle]
 pub extern "C" fn examiner_read(file: &[u8], answer: &mut Answer) -> u32
-    ensures { λ r. ⌜ r ≡ status (readOutcome (now (file .entry))) ⌝ }
-    ensures { λ r. ⌜ now (answer .exit) ≡ answerAfter (readOutcome (now (file .entry))) (now (answer .entry)) ⌝ }
+    ensures { λ r. ⌜ r ≡ status (readTold (now (file .entry))) ⌝ }
+    ensures { λ r. ⌜ now (answer .exit) ≡ answerAfter (readTold (now (file .entry))) (now (answer .entry)) ⌝ }
 {
     let mut numbers = [0u64; places::END];
     let verdict = file::read_numbers(file, &mut numbers);
@@ -26,8 +26,8 @@ pub extern "C" fn examiner_read(file: &[u8], answer: &mut Answer) -> u32
 // **Write** of the problem that the file holds: the bytes written, and the file in `out`.
 #[no_mangle]
 pub extern "C" fn examiner_write(file: &[u8], out: &mut [u8], answer: &mut Answer) -> u32
-    ensures { λ r. ⌜ r ≡ status (writeOutcome (now (file .entry)) (length (now (out .entry)))) ⌝ }
-    ensures { λ r. ⌜ now (answer .exit) ≡ answerAfter (writeOutcome (now (file .entry)) (length (now (out .entry)))) (now (answer .entry)) ⌝ }
+    ensures { λ r. ⌜ r ≡ status (writeTold (now (file .entry)) (length (now (out .entry)))) ⌝ }
+    ensures { λ r. ⌜ now (answer .exit) ≡ answerAfter (writeTold (now (file .entry)) (length (now (out .entry)))) (now (answer .entry)) ⌝ }
     ensures { λ r. ⌜ now (out .exit) ≡ writeOut (now (file .entry)) (now (out .entry)) ⌝ }
 {
     let mut numbers = [0u64; places::END];
@@ -46,8 +46,8 @@ pub extern "C" fn examiner_write_fields(
     out: &mut [u8],
     answer: &mut Answer,
 ) -> u32
-    ensures { λ r. ⌜ r ≡ status (fieldsOutcome (now (fields .entry)) (length (now (out .entry)))) ⌝ }
-    ensures { λ r. ⌜ now (answer .exit) ≡ answerAfter (fieldsOutcome (now (fields .entry)) (length (now (out .entry)))) (now (answer .entry)) ⌝ }
+    ensures { λ r. ⌜ r ≡ status (fieldsTold (now (fields .entry)) (length (now (out .entry)))) ⌝ }
+    ensures { λ r. ⌜ now (answer .exit) ≡ answerAfter (fieldsTold (now (fields .entry)) (length (now (out .entry)))) (now (answer .entry)) ⌝ }
     ensures { λ r. ⌜ now (out .exit) ≡ writtenBuffer (fieldsProblem (now (fields .entry))) (now (out .entry)) ⌝ }
 {
     let numbers = numbers::with_edition(*fields);
@@ -58,7 +58,7 @@ pub extern "C" fn examiner_write_fields(
 // **Interference** of the problem that the file holds: the words filled.
 #[no_mangle]
 pub extern "C" fn examiner_interference(file: &[u8], words: &mut [u32], answer: &mut Answer) -> u32
-    ensures { λ r. ⌜ Right (InterferenceOutcome (now (file .entry)) (now (words .entry)) (now (words .exit))) (now (answer .entry)) (now (answer .exit)) r ⌝ }
+    ensures { λ r. ⌜ Right (InterferenceTold (now (file .entry)) (now (words .entry)) (now (words .exit))) (now (answer .entry)) (now (answer .exit)) r ⌝ }
 {
     let mut numbers = [0u64; places::END];
     let verdict = file::read_numbers(file, &mut numbers);
@@ -72,7 +72,7 @@ pub extern "C" fn examiner_interference(file: &[u8], words: &mut [u32], answer: 
 // **Bound** of the problem that the file holds, with a layout: bytes needed, contested vertices, first loads, bound.
 #[no_mangle]
 pub extern "C" fn examiner_bound(file: &[u8], layout: &[u8], answer: &mut Answer) -> u32
-    ensures { λ r. ⌜ Right (BoundOutcome (now (file .entry)) (now (layout .entry))) (now (answer .entry)) (now (answer .exit)) r ⌝ }
+    ensures { λ r. ⌜ Right (BoundTold (now (file .entry)) (now (layout .entry))) (now (answer .entry)) (now (answer .exit)) r ⌝ }
 {
     let mut numbers = [0u64; places::END];
     let verdict = file::read_numbers(file, &mut numbers);
@@ -92,8 +92,8 @@ pub extern "C" fn examiner_run(
     held: &mut [u8; limits::MOST_REGIONS],
     answer: &mut Answer,
 ) -> u32
-    ensures { λ r. ⌜ r ≡ status (runOutcome (now (file .entry)) (now (layout .entry)) (now (walk .entry))) ⌝ }
-    ensures { λ r. ⌜ now (answer .exit) ≡ answerAfter (runOutcome (now (file .entry)) (now (layout .entry)) (now (walk .entry))) (now (answer .entry)) ⌝ }
+    ensures { λ r. ⌜ r ≡ status (runTold (now (file .entry)) (now (layout .entry)) (now (walk .entry))) ⌝ }
+    ensures { λ r. ⌜ now (answer .exit) ≡ answerAfter (runTold (now (file .entry)) (now (layout .entry)) (now (walk .entry))) (now (answer .entry)) ⌝ }
     ensures { λ r. ⌜ now (held .exit) ≡ runHeld (now (file .entry)) (now (layout .entry)) (now (walk .entry)) (now (held .entry)) ⌝ }
 {
     let mut numbers = [0u64; places::END];

@@ -12,6 +12,7 @@ ghost use lib.ListN.{length, replicate};
 ghost use Rattle.model.specs.File.{numberCount};
 ghost use Rattle.model.specs.Operations.{readFile, writeProblem, writtenBuffer};
 ghost use Rattle.model.specs.Verdicts.{asVerdict};
+ghost use Rattle.model.specs.Outcomes.{readOutcome, writeOutcome, readSays, writeSays};
 ghost use Rattle.file.specs.Steps.{NumbersRead, checkNumbers, judgeNumbers};
 
 // What the checks of a problem's numbers say, without the length of the file.
@@ -43,6 +44,7 @@ pub fn read_numbers(bytes: &[u8], numbers: &mut Numbers) -> Verdict
 // **Read.** The problem that the bytes are the file of, with every spare place zero, or the first refusal that applies.
 pub fn read(bytes: &[u8]) -> ReadAnswer
     ensures { λ r. ⌜ r ≡ readFile (now (bytes .entry)) ⌝ }
+    ensures { λ r. ⌜ readOutcome r ≡ readSays (now (bytes .entry)) ⌝ }
 {
     let mut numbers = [0u64; places::END];
     let verdict = read_numbers(bytes, &mut numbers);
@@ -77,6 +79,7 @@ pub fn judge(numbers: &Numbers) -> Verdict
 // **Write.** Writes the problem's file at the front of the buffer, or refuses and leaves the buffer as it is.
 pub fn write(problem: Problem, buf: &mut [u8]) -> WriteAnswer
     ensures { λ r. ⌜ r ≡ writeProblem problem (length (now (buf .entry))) ⌝ ∗ ⌜ now (buf .exit) ≡ writtenBuffer problem (now (buf .entry)) ⌝ }
+    ensures { λ r. ⌜ writeOutcome r ≡ writeSays problem (length (now (buf .entry))) ⌝ }
 {
     let numbers = numbers::numbers_of(problem);
     let checked = check(&numbers);

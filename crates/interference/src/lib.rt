@@ -11,6 +11,7 @@ ghost use lib.ListN.{length};
 ghost use Rattle.model.specs.Numbers.{problemOf};
 ghost use Rattle.model.specs.Operations.{Checked};
 ghost use Rattle.model.specs.Results.{InterferenceSays};
+ghost use Rattle.model.specs.Outcomes.{interferenceOutcome, FillsWords};
 ghost use Rattle.interference.specs.Copies.{RowCopied, Copied};
 ghost use Rattle.model.specs.Places as places;
 
@@ -58,6 +59,7 @@ pub fn interference_checked(l: &Numbers, words: &mut [u32]) -> InterferenceAnswe
 // buffer as it is.
 pub fn interference(problem: Problem, words: &mut [u32]) -> InterferenceAnswer
     ensures { λ r. ⌜ InterferenceSays problem (now (words .entry)) (now (words .exit)) r ⌝ }
+    ensures { λ r. ⌜ FillsWords problem (now (words .entry)) (now (words .exit)) (interferenceOutcome r) ⌝ }
 {
     let numbers = numbers::numbers_of(problem);
     let verdict = file::judge(&numbers);

@@ -1,12 +1,13 @@
 -- A refusal is no good answer: what says that it is one proves anything.
 use Prim.Native.Nat.{ℕ}
-use mathlib.Core.Path.{_≡_, refl}
+use mathlib.Core.Path.{_≡_, refl, ap}
 use native.Mathlib.Omega.{arith}
 use Rattle.model.specs.declared.Refusal.{Refusal}
 use Rattle.model.specs.declared.Verdict.{Verdict}
 use Rattle.model.specs.declared.Verdict.the-variants as verdict
 use Rattle.model.specs.Graph.{andThen}
 use Rattle.model.specs.declared.FieldsAnswer.the-variants as fields
+use Rattle.model.specs.Outcomes.{Outcome}
 
 module _ {P : Type 0} {f : Refusal} where
   pub refused-not-accepted : verdict.Refused f ≡ verdict.Accepted → P
@@ -19,3 +20,10 @@ module _ {P : Type 0} {f : Refusal} where
 pub accepted-both : (v w : Verdict) → andThen v w ≡ verdict.Accepted → (v ≡ verdict.Accepted) × (w ≡ verdict.Accepted)
 accepted-both verdict.Accepted w e = (refl, e)
 accepted-both (verdict.Refused f) w e = refused-not-accepted e
+
+-- What is said of an answer, with its outcome: by an equation, and by a relation.
+pub equal-outcome : {A P : Type 0} (outcome : A → Outcome) {a b : A} → (a ≡ b) × P → (a ≡ b) × (P × (outcome a ≡ outcome b))
+equal-outcome outcome says = (says .0, (says .1, ap outcome (says .0)))
+
+pub said-outcome : {A : Type 0} (outcome : A → Outcome) (Says : A → Type 0) (a : A) → Says a → Says a × ((r : A) × Says r × (outcome a ≡ outcome r))
+said-outcome outcome Says a says = (says, (a, says, refl))

@@ -18,5 +18,6 @@ pub mod Runs
 pub mod Operations
 pub mod Verdicts
 pub mod Results
+pub mod Outcomes
 pub mod Decimals
 pub mod Slips

@@ -2,7 +2,8 @@
 use Prim.Native.Nat.{ℕ}
 use mathlib.Core.Path.{_≡_, ap, _∙_}
 use mathlib.Core.List.{List}
-use Rattle.outcomes.specs.Outcomes.{Outcome, status, answerAfter}
+use Rattle.model.specs.Outcomes.{Outcome}
+use Rattle.outcomes.specs.Outcomes.{status, answerAfter}
 
 pub told : (o p : Outcome) (n : ℕ) (before after : List ℕ) → o ≡ p → n ≡ status o → after ≡ answerAfter o before →
     (n ≡ status p) × (after ≡ answerAfter p before)

@@ -10,14 +10,15 @@ use model::places;
 ghost use mathlib.Core.Path.{_≡_};
 ghost use mathlib.Core.List.{[], _∷_};
 ghost use Rattle.model.specs.Numbers.{problemOf};
-ghost use Rattle.outcomes.specs.Outcomes.{Results, Refusing, status, answerAfter, counts, onWritten, onFilled, onBounded, onRan};
+ghost use Rattle.model.specs.Outcomes.{Results, refusalOutcome, writeOutcome, interferenceOutcome, boundOutcome, runOutcome};
+ghost use Rattle.outcomes.specs.Outcomes.{status, answerAfter, counts};
 
 // What a caller lends for the numbers of an answer.
 pub type Answer = [u64; 4];
 
 // Tells a refusal.
 pub fn refuse(refusal: Refusal, answer: &mut Answer) -> u32
-    ensures { λ r. ⌜ r ≡ status (Refusing refusal) ⌝ ∗ ⌜ now (answer .exit) ≡ answerAfter (Refusing refusal) (now (answer .entry)) ⌝ }
+    ensures { λ r. ⌜ r ≡ status (refusalOutcome refusal) ⌝ ∗ ⌜ now (answer .exit) ≡ answerAfter (refusalOutcome refusal) (now (answer .entry)) ⌝ }
 {
     answer[0] = model::place_of(refusal);
     model::number_of(refusal)
@@ -51,7 +52,7 @@ pub fn tell_counts(l: &Numbers, answer: &mut Answer) -> u32
 
 // Tells what Write gave.
 pub fn tell_written(written: WriteAnswer, answer: &mut Answer) -> u32
-    ensures { λ r. ⌜ r ≡ status (onWritten written) ⌝ ∗ ⌜ now (answer .exit) ≡ answerAfter (onWritten written) (now (answer .entry)) ⌝ }
+    ensures { λ r. ⌜ r ≡ status (writeOutcome written) ⌝ ∗ ⌜ now (answer .exit) ≡ answerAfter (writeOutcome written) (now (answer .entry)) ⌝ }
 {
     match written {
         WriteAnswer::Refused(refusal) => refuse(refusal, answer),
@@ -64,7 +65,7 @@ pub fn tell_written(written: WriteAnswer, answer: &mut Answer) -> u32
 
 // Tells what Interference gave.
 pub fn tell_filled(filled: InterferenceAnswer, answer: &mut Answer) -> u32
-    ensures { λ r. ⌜ r ≡ status (onFilled filled) ⌝ ∗ ⌜ now (answer .exit) ≡ answerAfter (onFilled filled) (now (answer .entry)) ⌝ }
+    ensures { λ r. ⌜ r ≡ status (interferenceOutcome filled) ⌝ ∗ ⌜ now (answer .exit) ≡ answerAfter (interferenceOutcome filled) (now (answer .entry)) ⌝ }
 {
     match filled {
         InterferenceAnswer::Refused(refusal) => refuse(refusal, answer),
@@ -77,7 +78,7 @@ pub fn tell_filled(filled: InterferenceAnswer, answer: &mut Answer) -> u32
 
 // Tells what Bound gave.
 pub fn tell_bounded(bounded: BoundAnswer, answer: &mut Answer) -> u32
-    ensures { λ r. ⌜ r ≡ status (onBounded bounded) ⌝ ∗ ⌜ now (answer .exit) ≡ answerAfter (onBounded bounded) (now (answer .entry)) ⌝ }
+    ensures { λ r. ⌜ r ≡ status (boundOutcome bounded) ⌝ ∗ ⌜ now (answer .exit) ≡ answerAfter (boundOutcome bounded) (now (answer .entry)) ⌝ }
 {
     match bounded {
         BoundAnswer::Refused(refusal) => refuse(refusal, answer),
@@ -93,7 +94,7 @@ pub fn tell_bounded(bounded: BoundAnswer, answer: &mut Answer) -> u32
 
 // Tells what Run gave.
 pub fn tell_ran(ran: RunAnswer, answer: &mut Answer) -> u32
-    ensures { λ r. ⌜ r ≡ status (onRan ran) ⌝ ∗ ⌜ now (answer .exit) ≡ answerAfter (onRan ran) (now (answer .entry)) ⌝ }
+    ensures { λ r. ⌜ r ≡ status (runOutcome ran) ⌝ ∗ ⌜ now (answer .exit) ≡ answerAfter (runOutcome ran) (now (answer .entry)) ⌝ }
 {
     match ran {
         RunAnswer::Refused(refusal) => refuse(refusal, answer),

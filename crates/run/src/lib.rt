@@ -10,6 +10,7 @@ ghost use mathlib.Core.Path.{_≡_};
 ghost use Rattle.model.specs.Numbers.{problemOf};
 ghost use Rattle.model.specs.Operations.{Checked};
 ghost use Rattle.model.specs.Results.{runWalk, runRegions};
+ghost use Rattle.model.specs.Outcomes.{runOutcome, runSays};
 
 // The longest walk that Run takes.
 const WALK_LIMIT: usize = 1_000_000;
@@ -39,6 +40,7 @@ pub fn run_checked(l: &Numbers, layout: &[u8], walk: &[u32], held: &mut Regions)
 pub fn run(problem: Problem, layout: &[u8], walk: &[u32], held: &mut Regions) -> RunAnswer
     ensures { λ r. ⌜ r ≡ runWalk problem (now (layout .entry)) (now (walk .entry)) ⌝ }
     ensures { λ r. ⌜ now (held .exit) ≡ runRegions problem (now (layout .entry)) (now (walk .entry)) (now (held .entry)) ⌝ }
+    ensures { λ r. ⌜ runOutcome r ≡ runSays problem (now (layout .entry)) (now (walk .entry)) ⌝ }
 {
     let numbers = numbers::numbers_of(problem);
     let verdict = file::judge(&numbers);

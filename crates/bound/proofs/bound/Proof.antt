@@ -1,7 +1,10 @@
 -- `bound` meets Bound's definition: the problem's own checks, and the rest on its numbers.
 use mathlib.Core.Path.{subst}
 use Rattle.model.specs.declared.Problem.{Problem}
+use Rattle.model.specs.declared.BoundAnswer.the-variants.{Refused}
 use Rattle.model.specs.Results.{BoundSays}
+use Rattle.model.specs.Outcomes.{boundOutcome}
+use Rattle.model.proofs.Answers.{said-outcome}
 use Rattle.file.proofs.Opened.{same-problem, opened}
 use Rattle.layout.proofs.Through13.{refused-early}
 use Rattle.bound.proofs.Stages.{refused-says}
@@ -36,7 +39,8 @@ refusal-in-requires c κs = (_, c .enum-told2 .given .1)
 returns : tie.Need-returns
 returns c =
     let at = refused c in
-    refused-says _ _ _ (refused-early _ _ _ (numbered at .numbers-of .ensures) _ (at .judge .ensures) _ (c .refusal-in .ensures))
+    said-outcome boundOutcome (BoundSays _ _) (Refused (c .refusal-in .result))
+    (refused-says _ _ _ (refused-early _ _ _ (numbered at .numbers-of .ensures) _ (at .judge .ensures) _ (c .refusal-in .ensures)))
 
 bound-checked-requires : tie.Need-bound-checked-requires
 bound-checked-requires c κs =
@@ -47,8 +51,9 @@ returns-2 : tie.Need-returns-2
 returns-2 c =
     let at = passed (c .before) in
     let layout = numbered at .before .before .args .layout in
-    subst (λ (p : Problem). BoundSays p (layout .now) (c .bound-checked .result))
-    (same-problem _ _ (numbered at .numbers-of .ensures)) (c .bound-checked .ensures)
+    said-outcome boundOutcome (BoundSays _ _) (c .bound-checked .result)
+    (subst (λ (p : Problem). BoundSays p (layout .now) (c .bound-checked .result))
+    (same-problem _ _ (numbered at .numbers-of .ensures)) (c .bound-checked .ensures))
 
 pub bound-spec : {M : Type 1} → statement M
 bound-spec =

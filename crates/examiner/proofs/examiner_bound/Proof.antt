@@ -1,7 +1,6 @@
 -- `examiner_bound` meets its contract: Read's refusal stands, or Bound's answer on the problem is told.
 use mathlib.Core.Path.{_≡_, refl}
-use Rattle.outcomes.specs.Outcomes.{Refusing, onBounded}
-use Rattle.examiner.specs.Exports.{IsBounded}
+use Rattle.model.specs.Outcomes.{refusalOutcome, boundOutcome, IsBounded}
 use Rattle.examiner.proofs.Told.{right-refused, right-on}
 use borrow.Author.Needs.{needs}
 use Rattle.examiner.proofs.examiner_bound.Statement.{statement}
@@ -44,10 +43,10 @@ returns c =
     let f = c .before .before in
     let layout = entry (refused f) .args .layout .now in
     let r = refused f .read-numbers .ensures in
-    let o = Refusing (f .refusal-in .result) in
+    let o = refusalOutcome (f .refusal-in .result) in
     record {
       outcome = o;
-      says = right-refused _ _ _ r (λ p. IsBounded p layout o) (λ f. o ≡ Refusing f) _ (f .refusal-in .ensures) refl;
+      says = right-refused _ _ _ r (λ p. IsBounded p layout o) (λ f. o ≡ refusalOutcome f) _ (f .refusal-in .ensures) refl;
       status-is = c .refuse .ensures .0;
       answer-is = c .refuse .ensures .1;
     }
@@ -63,10 +62,10 @@ returns-2 c =
     let b = bounded c .bound-checked in
     let e = given (bounded c .before) in
     let layout = entry (read e) .args .layout .now in
-    let o = onBounded (b .result) in
+    let o = boundOutcome (b .result) in
     record {
       outcome = o;
-      says = right-on _ _ _ (read e .read-numbers .ensures) (λ p. IsBounded p layout o) (λ f. o ≡ Refusing f) (e .enum-told .given .1) (b .result, b .ensures, refl);
+      says = right-on _ _ _ (read e .read-numbers .ensures) (λ p. IsBounded p layout o) (λ f. o ≡ refusalOutcome f) (e .enum-told .given .1) (b .result, b .ensures, refl);
       status-is = c .tell-bounded .ensures .0;
       answer-is = c .tell-bounded .ensures .1;
     }

@@ -1,7 +1,6 @@
 -- `examiner_interference` meets its contract: Read's refusal stands, or Interference's answer on the problem is told.
 use mathlib.Core.Path.{_≡_, refl}
-use Rattle.outcomes.specs.Outcomes.{Refusing, onFilled}
-use Rattle.examiner.specs.Exports.{FillsWords}
+use Rattle.model.specs.Outcomes.{refusalOutcome, interferenceOutcome, FillsWords}
 use Rattle.examiner.proofs.Told.{right-refused, right-on}
 use borrow.Author.Needs.{needs}
 use Rattle.examiner.proofs.examiner_interference.Statement.{statement}
@@ -44,11 +43,11 @@ returns c =
     let f = c .before .before in
     let words = entry (refused f) .args .words .now in
     let r = refused f .read-numbers .ensures in
-    let o = Refusing (f .refusal-in .result) in
+    let o = refusalOutcome (f .refusal-in .result) in
     record {
       outcome = o;
       says =
-          right-refused _ _ _ r (λ p. FillsWords p words words o) (λ f. (o ≡ Refusing f) × (words ≡ words)) _ (f .refusal-in .ensures) (refl, refl);
+          right-refused _ _ _ r (λ p. FillsWords p words words o) (λ f. (o ≡ refusalOutcome f) × (words ≡ words)) _ (f .refusal-in .ensures) (refl, refl);
       status-is = c .refuse .ensures .0;
       answer-is = c .refuse .ensures .1;
     }
@@ -68,11 +67,11 @@ returns-2 c =
     let e = given (filled c .before) in
     let words = entry (read e) .args .words .now in
     let after = i .last .1 .0 in
-    let o = onFilled (i .result) in
+    let o = interferenceOutcome (i .result) in
     record {
       outcome = o;
       says =
-          right-on _ _ _ (read e .read-numbers .ensures) (λ p. FillsWords p words after o) (λ f. (o ≡ Refusing f) × (after ≡ words)) (e .enum-told .given .1) (i .result, i .ensures, refl);
+          right-on _ _ _ (read e .read-numbers .ensures) (λ p. FillsWords p words after o) (λ f. (o ≡ refusalOutcome f) × (after ≡ words)) (e .enum-told .given .1) (i .result, i .ensures, refl);
       status-is = c .tell-filled .ensures .0;
       answer-is = c .tell-filled .ensures .1;
     }

@@ -1,5 +1,6 @@
 -- `examiner_read` meets its contract: Read's refusal stands, or the problem's counts are told.
-use Rattle.outcomes.specs.Outcomes.{Results, Refusing, counts}
+use Rattle.model.specs.Outcomes.{Results, refusalOutcome}
+use Rattle.outcomes.specs.Outcomes.{counts}
 use Rattle.outcomes.proofs.Told.{told}
 use Rattle.examiner.proofs.Told.{stands, goes-on}
 use borrow.Author.Needs.{needs}
@@ -32,7 +33,7 @@ returns : tie.Need-returns
 returns c =
     let f = c .before .before in
     told _ _ _ _ _
-    (stands _ _ _ (refused f .read-numbers .ensures) (λ p. Results (counts p)) Refusing _ (f .refusal-in .ensures))
+    (stands _ _ _ (refused f .read-numbers .ensures) (λ p. Results (counts p)) refusalOutcome _ (f .refusal-in .ensures))
     (c .refuse .ensures .0)
     (c .refuse .ensures .1)
 
@@ -43,7 +44,7 @@ returns-2 : tie.Need-returns-2
 returns-2 c =
     let e = c .before .before .before in
     told _ _ _ _ _
-    (goes-on _ _ _ (read e .read-numbers .ensures) (λ p. Results (counts p)) Refusing (e .enum-told .given .1))
+    (goes-on _ _ _ (read e .read-numbers .ensures) (λ p. Results (counts p)) refusalOutcome (e .enum-told .given .1))
     (c .tell-counts .ensures .0)
     (c .tell-counts .ensures .1)
 

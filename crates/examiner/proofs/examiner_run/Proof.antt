@@ -1,7 +1,7 @@
 -- `examiner_run` meets its contract: Read's refusal stands, or Run's answer on the problem is told.
 use mathlib.Core.Path.{ap}
-use Rattle.model.specs.Results.{runWalk, runRegions}
-use Rattle.outcomes.specs.Outcomes.{Refusing, onRan}
+use Rattle.model.specs.Results.{runRegions}
+use Rattle.model.specs.Outcomes.{refusalOutcome, runOutcome, runSays}
 use Rattle.outcomes.proofs.Told.{told-with}
 use Rattle.examiner.proofs.Told.{stands, goes-to}
 use borrow.Author.Needs.{needs}
@@ -49,7 +49,7 @@ returns c =
     let held = a .held .now in
     let r = refused f .read-numbers .ensures in
     told-with _ _ _ _ _
-    (stands _ _ _ r (λ p. onRan (runWalk p layout walk)) Refusing _ (f .refusal-in .ensures))
+    (stands _ _ _ r (λ p. runSays p layout walk) refusalOutcome _ (f .refusal-in .ensures))
     (c .refuse .ensures .0)
     (c .refuse .ensures .1)
     (stands _ _ _ r (λ p. runRegions p layout walk held) (λ f. held) _ (f .refusal-in .ensures))
@@ -70,7 +70,7 @@ returns-2 c =
     let r = read e .read-numbers .ensures in
     let says = ran c .run-checked .ensures in
     told-with _ _ _ _ _
-    (goes-to _ _ _ r (λ p. onRan (runWalk p layout walk)) Refusing (ap onRan (says .0)) (e .enum-told .given .1))
+    (goes-to _ _ _ r (λ p. runSays p layout walk) refusalOutcome (ap runOutcome (says .0)) (e .enum-told .given .1))
     (c .tell-ran .ensures .0)
     (c .tell-ran .ensures .1)
     (goes-to _ _ _ r (λ p. runRegions p layout walk held) (λ f. held) (says .1) (e .enum-told .given .1))

@@ -2,8 +2,8 @@
 use lib.ListN.{length}
 use mathlib.Core.Path.{ap, _∙_}
 use Rattle.model.specs.declared.Problem.{Problem}
-use Rattle.model.specs.Operations.{writeProblem, writtenBuffer}
-use Rattle.outcomes.specs.Outcomes.{Refusing, onWritten}
+use Rattle.model.specs.Operations.{writtenBuffer}
+use Rattle.model.specs.Outcomes.{refusalOutcome, writeSays}
 use Rattle.outcomes.proofs.Told.{told-with}
 use Rattle.examiner.proofs.Told.{stands, goes-to}
 use borrow.Author.Needs.{needs}
@@ -51,7 +51,7 @@ returns c =
     let out = entry (refused f) .args .out .now in
     let r = refused f .read-numbers .ensures in
     told-with _ _ _ _ _
-    (stands _ _ _ r (λ p. onWritten (writeProblem p (length out))) Refusing _ (f .refusal-in .ensures))
+    (stands _ _ _ r (λ p. writeSays p (length out)) refusalOutcome _ (f .refusal-in .ensures))
     (c .refuse .ensures .0)
     (c .refuse .ensures .1)
     (stands _ _ _ r (λ p. writtenBuffer p out) (λ f. out) _ (f .refusal-in .ensures))
@@ -76,11 +76,11 @@ returns-2 c =
     let r = read e .read-numbers .ensures in
     let own = made w .problem-of .ensures in
     told-with _ _ _ _ _
-    (goes-to _ _ _ r (λ p. onWritten (writeProblem p (length out))) Refusing
-    (ap onWritten (w .write .ensures .0 ∙ ap (λ (p : Problem). writeProblem p (length out)) own)) (e .enum-told .given .1))
+    (goes-to _ _ _ r (λ p. writeSays p (length out)) refusalOutcome
+    (w .write .ensures .1 .1 ∙ ap (λ (p : Problem). writeSays p (length out)) own) (e .enum-told .given .1))
     (c .tell-written .ensures .0)
     (c .tell-written .ensures .1)
-    (goes-to _ _ _ r (λ p. writtenBuffer p out) (λ f. out) (w .write .ensures .1 ∙ ap (λ (p : Problem). writtenBuffer p out) own) (e .enum-told .given .1))
+    (goes-to _ _ _ r (λ p. writtenBuffer p out) (λ f. out) (w .write .ensures .1 .0 ∙ ap (λ (p : Problem). writtenBuffer p out) own) (e .enum-told .given .1))
 
 pub examiner-write-spec : {M : Type 1} → statement M
 examiner-write-spec =

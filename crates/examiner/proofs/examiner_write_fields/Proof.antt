@@ -3,8 +3,8 @@ use lib.ListN.{length}
 use mathlib.Core.Path.{ap, _∙_}
 use Rattle.model.specs.declared.Problem.{Problem}
 use Rattle.model.specs.Numbers.{problemOf}
-use Rattle.model.specs.Operations.{writeProblem, writtenBuffer}
-use Rattle.outcomes.specs.Outcomes.{onWritten}
+use Rattle.model.specs.Operations.{writtenBuffer}
+use Rattle.model.specs.Outcomes.{writeSays}
 use Rattle.outcomes.proofs.Told.{told-with}
 use borrow.Author.Needs.{needs}
 use Rattle.examiner.proofs.examiner_write_fields.Statement.{statement}
@@ -45,10 +45,10 @@ returns c =
     let out = entry n .args .out .now in
     let problem = made w .problem-of .ensures ∙ ap problemOf (n .with-edition .ensures) in
     told-with _ _ _ _ _
-    (ap onWritten (w .write .ensures .0 ∙ ap (λ (p : Problem). writeProblem p (length out)) problem))
+    (w .write .ensures .1 .1 ∙ ap (λ (p : Problem). writeSays p (length out)) problem)
     (c .tell-written .ensures .0)
     (c .tell-written .ensures .1)
-    (w .write .ensures .1 ∙ ap (λ (p : Problem). writtenBuffer p out) problem)
+    (w .write .ensures .1 .0 ∙ ap (λ (p : Problem). writtenBuffer p out) problem)
 
 pub examiner-write-fields-spec : {M : Type 1} → statement M
 examiner-write-fields-spec =

@@ -1,6 +1,8 @@
 -- `write` meets Write's definition: the problem's checks, the buffer's room, the file.
 use mathlib.Core.Path.{sym, ap, _∙_}
 use Rattle.model.specs.Verdicts.{asVerdict}
+use Rattle.model.specs.Outcomes.{writeOutcome}
+use Rattle.model.proofs.Answers.{equal-outcome}
 use Rattle.file.proofs.Stages.{not-written, too-short, fits, written}
 use borrow.Author.Needs.{needs}
 use Rattle.file.proofs.write.Statement.{statement}
@@ -45,13 +47,15 @@ returns : tie.Need-returns
 returns c =
     let told = c .before in
     let k = refused told in
-    not-written _ _ _ (numbered k .numbers-of .ensures) _ (k .check .ensures) _ (sym (told .verdict-of .ensures) ∙ c .refusal-in .ensures)
+    equal-outcome writeOutcome
+    (not-written _ _ _ (numbered k .numbers-of .ensures) _ (k .check .ensures) _ (sym (told .verdict-of .ensures) ∙ c .refusal-in .ensures))
 
 returns-2 : tie.Need-returns-2
 returns-2 c =
     let t = c .before in
     let k = passed t in
-    too-short _ _ _ (numbered k .numbers-of .ensures) _ (k .check .ensures) _ (t .before .checked .given .1) (c .if1 .taken)
+    equal-outcome writeOutcome
+    (too-short _ _ _ (numbered k .numbers-of .ensures) _ (k .check .ensures) _ (t .before .checked .given .1) (c .if1 .taken))
 
 write-fields-requires : tie.Need-write-fields-requires
 write-fields-requires c κs =
@@ -69,8 +73,9 @@ returns-3 c =
     let e = stored f in
     let t = room e in
     let k = passed t in
-    written _ _ _ (numbered k .numbers-of .ensures) _ (k .check .ensures) _ (t .before .checked .given .1) (e .if1 .left) _ _
-    (f .write-fields .ensures .0) (f .write-fields .ensures .1)
+    equal-outcome writeOutcome
+    (written _ _ _ (numbered k .numbers-of .ensures) _ (k .check .ensures) _ (t .before .checked .given .1) (e .if1 .left) _ _
+    (f .write-fields .ensures .0) (f .write-fields .ensures .1))
 
 pub write-spec : {M : Type 1} → statement M
 write-spec =

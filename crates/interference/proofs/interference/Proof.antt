@@ -1,4 +1,8 @@
 -- `interference` meets Interference's definition: the problem's own checks, and the rest on its numbers.
+use Rattle.model.specs.declared.InterferenceAnswer.the-variants.{Refused}
+use Rattle.model.specs.Results.{InterferenceSays}
+use Rattle.model.specs.Outcomes.{interferenceOutcome}
+use Rattle.model.proofs.Answers.{said-outcome}
 use Rattle.file.proofs.Opened.{opened}
 use Rattle.interference.proofs.Answers.{not-checked, own-says}
 use borrow.Author.Needs.{needs}
@@ -28,7 +32,8 @@ refused c = c .before .before .before
 
 returns : tie.Need-returns
 returns c =
-    not-checked _ _ _ (numbered (refused c) .numbers-of .ensures) _ (refused c .judge .ensures) _ (c .refusal-in .ensures)
+    said-outcome interferenceOutcome (InterferenceSays _ _ _) (Refused (c .refusal-in .result))
+    (not-checked _ _ _ (numbered (refused c) .numbers-of .ensures) _ (refused c .judge .ensures) _ (c .refusal-in .ensures))
 
 abbrev passed : tie.After-interference-checked-arg → tie.After-enum-told
 passed c = c .before .before
@@ -49,8 +54,9 @@ answered c = c .before .before
 returns-2 : tie.Need-returns-2
 returns-2 c =
     let d = judged (answered c .before) in
-    own-says _ _ _ (numbered d .numbers-of .ensures) _ (d .judge .ensures) _ (answered c .interference-checked .result)
-    (answered c .interference-checked .ensures)
+    said-outcome interferenceOutcome (InterferenceSays _ _ _) (answered c .interference-checked .result)
+    (own-says _ _ _ (numbered d .numbers-of .ensures) _ (d .judge .ensures) _ (answered c .interference-checked .result)
+    (answered c .interference-checked .ensures))
 
 pub interference-spec : {M : Type 1} → statement M
 interference-spec =

@@ -1,4 +1,6 @@
 -- `run` meets Run's definition: the problem's own checks, and the rest on its numbers.
+use Rattle.model.specs.Outcomes.{runOutcome}
+use Rattle.model.proofs.Answers.{equal-outcome}
 use Rattle.file.proofs.Opened.{same-problem, opened}
 use Rattle.layout.proofs.Through13.{refused-early}
 use Rattle.run.proofs.Stages.{of-same, not-begun}
@@ -35,7 +37,8 @@ refusal-in-requires c κs = (_, c .enum-told2 .given .1)
 returns : tie.Need-returns
 returns c =
     let k = c .before .before .before in
-    not-begun _ _ _ _ _ (refused-early _ _ _ (numbered k .numbers-of .ensures) _ (k .judge .ensures) _ (c .refusal-in .ensures))
+    equal-outcome runOutcome
+    (not-begun _ _ _ _ _ (refused-early _ _ _ (numbered k .numbers-of .ensures) _ (k .judge .ensures) _ (c .refusal-in .ensures)))
 
 run-checked-requires : tie.Need-run-checked-requires
 run-checked-requires c κs =
@@ -46,7 +49,7 @@ run-checked-requires c κs =
 returns-2 : tie.Need-returns-2
 returns-2 c =
     let k = checked (passed (c .before)) in
-    of-same _ _ _ _ _ (same-problem _ _ (numbered k .numbers-of .ensures)) _ _ (c .run-checked .ensures)
+    equal-outcome runOutcome (of-same _ _ _ _ _ (same-problem _ _ (numbered k .numbers-of .ensures)) _ _ (c .run-checked .ensures))
 
 pub run-spec : {M : Type 1} → statement M
 run-spec =
