@@ -170,7 +170,8 @@ fn place(parts: &[&str], i: usize, there: &str) -> Option<String> {
     if [", ", " and ", ", and ", " or "].contains(&gap) && is_name(next) {
         return place(parts, i + 2, there);
     }
-    if links.contains(&gap) && is_name(next) || [" in ", " of ", " ("].contains(&gap) && next.contains('/') {
+    let linked = links.contains(&gap);
+    if (linked && is_name(next)) || ((linked || gap == " (") && next.contains('/')) {
         return Some(next.to_string());
     }
     if gap.starts_with(" there") {
