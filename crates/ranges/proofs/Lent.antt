@@ -13,7 +13,7 @@ use prog.Wp.{Heap, Env, Calls, Loops}
 use ghost.Atoms.{Atoms, sem}
 use contract.Monad.{fact}
 use sound.WpLaws.{FmC}
-use types.Kit.{Given, Item, ‵, raw, _⊛_, mean, some, later, Post, runs, lands, Seq, _$_, _∵_, !, qed, move, regoal, fjoin, frame, done}
+use types.Kit.{Given, Item, ‵, raw, _⊛_, mean, some, later, Post, runs, lands, Seq, _$_, _∵_, !, qed, move, fjoin, frame, done}
 use types.Run.{Opds}
 use denote.RattleType.{RattleType, owns}
 use denote.Laws.{Is, Makes}
@@ -24,13 +24,13 @@ use denote.Plain.{uint-makes, uint-vals, uint-tells, uint-lawful}
 use denote.Ref.{RefT}
 use denote.Slice.{sliceTy, sliceVal, ShrSlice, shr-slice-copy}
 use denote.Builtin.{u32, usize}
-use denote.Steps.{owned, nothing, only}
+use denote.Steps.{owned, nothing}
 use denote.Triple.Statement.{Contract, Triple}
 use denote.Triple.Walked.{says}
 use Rattle.model.specs.declared.Loop.{Loop}
 use Rattle.model.proofs.Loop as T
 use Rattle.ranges.specs.Marks.{markCount}
-use Rattle.ranges.proofs.Steps.{answers, tells, hands}
+use Rattle.ranges.proofs.Steps.{spells, tells, hands}
 
 abbrev pub word : Ty
 word = tyInt w64
@@ -51,7 +51,7 @@ marks-val ms = arrayVal (map (λ m. vint w32 m) ms)
 abbrev pub Good : List ℕ → Type 0
 Good ms = Is Marks ms (marks-val ms ∷ [])
 
-marks-tell : (ms : List ℕ) (vs : List Val) → Is Marks ms vs → vs ≡ marks-val ms ∷ []
+pub marks-tell : (ms : List ℕ) (vs : List Val) → Is Marks ms vs → vs ≡ marks-val ms ∷ []
 marks-tell ms vs is = array-tells u32 (uint-vals w32) (uint-tells w32) markCount ms vs is
 
 each-zero : (n : ℕ) → shadow (each ℕ (u32 .own) (replicate n 0) (replicate n (vint w32 0)))
@@ -84,10 +84,7 @@ module _ {M : Type 1} {𝓤 : URA M} {H : Heap 𝓤} {A : Atoms 𝓤} {K : Type 
       Opds K W (raw (c .pre g) ∷ Γ) E xs (c .args g) →
       (Good a → Seq K W (Kept ∷ Γ) (lands C Λ E d (marks-val a) rest q)) →
       Seq K W (raw (c .pre g) ∷ Γ) (runs C Λ E (seq (call f xs d) rest) q)
-  marks t fm c known g Kept a En post said os k =
-      answers t fm c known g Kept Marks a En post said os (λ u is.
-      regoal t (λ (w : Val). lands C Λ E d w rest q) (ap only (marks-tell a (u ∷ []) is)) refl $
-      k (subst (λ (vs : List Val). Is Marks a vs) (marks-tell a (u ∷ []) is) is))
+  marks t fm c known g Kept a En post said os k = spells t fm c known g Kept Marks marks-val marks-tell a En post said os k
 
 -- The lent list, at a lifetime κ whose token is held.
 module _ {M : Type 1} (𝓤 : URA M) (H : Heap 𝓤) (A : Atoms 𝓤) (W : Given 𝓤 H A) (κ : Lft) (q : Share) (b o : ℕ) (γ : GName) (ys : List Loop) where

@@ -220,7 +220,7 @@ module _ {M : Type 1} (𝓤 : URA M) (H : Heap 𝓤) (A : Atoms 𝓤) (W : Given
         hands ! Token′ Own′ twice′ (End 𝓤 H A mem run .pre to-end) goes-end $
         tells ! fm (End 𝓤 H A mem run) known-end to-end Token′ last Ends (λ u. id⊢ 𝓤 _) said-end (and-then ! (load ! (from ! (stop !)) (look ! 11 refl)) (no-more !)) (λ ge.
         land ! (from ! (stop !)) (init ! 7 refl (tt, record { fits = ge })) $ move ! (4 ∷ 3 ∷ []) $
-        asks 𝓤 H A W κ q b o γ ys ! fm (Bad 𝓤 H A mem run) known-bad to-bad bad-one Bads (passes 𝓤 H A W κ q b o γ ys (ranged .few) last ge) (λ u. id⊢ 𝓤 _) said-bad
+        asks 𝓤 H A W κ q b o γ ys ! fm (Bad 𝓤 H A mem run) known-bad to-bad bad-one Bads (passes 𝓤 H A W κ q b o γ ys ranged last ge) (λ u. id⊢ 𝓤 _) said-bad
         (and-then ! (load ! (from ! (stop !)) (look ! 13 refl)) (and-then ! (load ! (from ! (stop !)) (look ! 7 refl)) (no-more !))) (λ gb.
         land ! (from ! (stop !)) (init ! 9 refl (tt, record { fits = gb })) $
         hands ! Token Own (lent.twice 𝓤 H A W κ q b o γ ys) (Mark 𝓤 H A mem run .pre to-mark) goes-mark $

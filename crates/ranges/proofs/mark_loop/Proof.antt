@@ -5,68 +5,68 @@ use borrow.Author.Needs.{needs}
 use Rattle.ranges.proofs.mark_loop.Statement.{statement}
 use Rattle.ranges.proofs.mark_loop.Tie as tie
 
-mul-out : tie.Need-mul-out
-mul-out c = search needs
+mul-marks : tie.Need-mul-marks
+mul-marks c = search needs
 
-array-read-out : tie.Need-array-read-out
-array-read-out c = search needs
+element-copy-out-marks : tie.Need-element-copy-out-marks
+element-copy-out-marks c = search needs
 
-cast-out : tie.Need-cast-out
-cast-out c = search needs
+cast-marks : tie.Need-cast-marks
+cast-marks c = search needs
 
-shl-out : tie.Need-shl-out
-shl-out c = search needs
+shl-marks : tie.Need-shl-marks
+shl-marks c = search needs
 
-mul-out-2 : tie.Need-mul-out-2
-mul-out-2 c = search needs
+mul-marks-2 : tie.Need-mul-marks-2
+mul-marks-2 c = search needs
 
-array-write-out : tie.Need-array-write-out
-array-write-out c = search needs
+element-write-marks : tie.Need-element-write-marks
+element-write-marks c = search needs
 
-add-out : tie.Need-add-out
-add-out c = search needs
+add-marks : tie.Need-add-marks
+add-marks c = search needs
 
-mul-out-3 : tie.Need-mul-out-3
-mul-out-3 c = search needs
+mul-marks-3 : tie.Need-mul-marks-3
+mul-marks-3 c = search needs
 
-array-read-out-2 : tie.Need-array-read-out-2
-array-read-out-2 c = search needs
+element-copy-out-marks-2 : tie.Need-element-copy-out-marks-2
+element-copy-out-marks-2 c = search needs
 
-cast-out-2 : tie.Need-cast-out-2
-cast-out-2 c = search needs
+cast-marks-2 : tie.Need-cast-marks-2
+cast-marks-2 c = search needs
 
-shl-out-2 : tie.Need-shl-out-2
-shl-out-2 c = search needs
+shl-marks-2 : tie.Need-shl-marks-2
+shl-marks-2 c = search needs
 
-add-out-2 : tie.Need-add-out-2
-add-out-2 c = search needs
+add-marks-2 : tie.Need-add-marks-2
+add-marks-2 c = search needs
 
-mul-out-4 : tie.Need-mul-out-4
-mul-out-4 c = search needs
+mul-marks-4 : tie.Need-mul-marks-4
+mul-marks-4 c = search needs
 
-array-write-out-2 : tie.Need-array-write-out-2
-array-write-out-2 c = search needs
+element-write-marks-2 : tie.Need-element-write-marks-2
+element-write-marks-2 c = search needs
 
 returns : tie.Need-returns
 unfolding markLoop
-returns c = rw (one-shl (c .args .i) (c .pre .1 .1))
+returns c = rw (one-shl (c .before .before .args .i) (c .before .before .pre .1 .1))
 
 pub mark-loop-spec : {M : Type 1} → statement M
 mark-loop-spec =
     tie.close
     (tie.spec
-    mul-out
-    array-read-out
-    cast-out
-    shl-out
-    mul-out-2
-    array-write-out
-    add-out
-    mul-out-3
-    array-read-out-2
-    cast-out-2
-    shl-out-2
-    add-out-2
-    mul-out-4
-    array-write-out-2
+    mul-marks
+    element-copy-out-marks
+    cast-marks
+    shl-marks
+    mul-marks-2
+    element-write-marks
+    add-marks
+    mul-marks-3
+    element-copy-out-marks-2
+    cast-marks-2
+    shl-marks-2
+    add-marks-2
+    mul-marks-4
+    element-write-marks-2
     returns)
