@@ -12,18 +12,19 @@ use lib.Dec.{eqb, ltb, leb}
 use borrow.Author.Tests.{eq-eqb, ne-eqb, eqb-true, eqb-false, lt-ltb, le-ltb, le-leb, lt-leb, ltb-true}
 use Rattle.model.specs.declared.Edge.{Edge}
 use Rattle.model.specs.declared.Loop.{Loop}
-use Rattle.model.specs.Search.{existsBelow}
-use Rattle.model.specs.Graph.{edge, loop, holds, entersPastHeader, returnsTo, wrongEdge, noReturn}
+use Rattle.model.specs.declared.Refusal.the-variants.{WrongEdge}
+use Rattle.model.specs.declared.Verdict.the-variants.{Accepted, Refused}
+use Rattle.model.specs.Search.{lowestBelow, existsBelow}
+use Rattle.model.specs.Graph.{edge, loop, holds, entersPastHeader, returnsTo, wrongEdge, noReturn, broken}
 use Rattle.model.proofs.Cases.{by-bool, by-order, and-left, and-right}
-use Rattle.model.proofs.Lists.{getD-table}
-use Rattle.model.proofs.Search.{exists-at, exists-first, exists-nowhere, exists-more}
-use Rattle.model.specs.Numbers.{table}
+use Rattle.model.proofs.Search.{Searched, hit, exists-hit, exists-none, exists-at, exists-first, exists-nowhere, exists-more}
 use Rattle.bits.specs.Tests.{has}
 use Rattle.bits.proofs.Tests.{has-or, has-and, has-less, has-zero, has-pow, some-bit}
 use Rattle.lookup.specs.Plain.{edgeOf}
 use Rattle.ranges.specs.Ranges.{Ranged}
 use Rattle.ranges.specs.Marks.{markCount, gain, markLoop, marksOf}
-use Rattle.edges.specs.Words.{heldOver, aroundAt, BitsTell, Headed, Around, wrongBy, returnedBy, Returned}
+use Rattle.edges.specs.Words.{heldOver, aroundAt, AroundTo, BitsTell, Headed, Around, wrongBy, returnedBy, edgesAnswer, Returned}
+use Rattle.edges.specs.declared.EdgesAnswer.the-variants.{Wrong, Returns}
 use Rattle.model.specs.Places as places
 
 -- A word gains a bit, and the others stay.
@@ -48,8 +49,8 @@ one-more test b i =
 -- The marks of the first i loops.
 record Ends (ls : List Loop) (i : ℕ) (marks : List ℕ) : Type 0 where
   long : length marks ≡ markCount
-  first : BitsTell i (λ b v. eqb (loop ls b .header) v) (λ v. getD marks v 0)
-  last : BitsTell i (λ b v. eqb (loop ls b .last) v) (λ v. getD marks (places.mostVertices + v) 0)
+  first : BitsTell places.mostVertices i (λ b v. eqb (loop ls b .header) v) (λ v. getD marks v 0)
+  last : BitsTell places.mostVertices i (λ b v. eqb (loop ls b .last) v) (λ v. getD marks (places.mostVertices + v) 0)
 
 module _ (ls : List Loop) (ranged : Ranged ls) where
   no-ends : Ends ls 0 (marksOf ls 0)
@@ -74,7 +75,7 @@ module _ (ls : List Loop) (ranged : Ranged ls) where
     at-end : places.mostVertices + end < length (gain marks header i)
     at-end = omega (arith, length-set marks header (bitOr (getD marks header 0) (2 ^ i)), ends .long, ranged .last i here)
 
-    more-first : BitsTell (suc i) (λ b v. eqb (loop ls b .header) v) (λ v. getD (markLoop marks header end i) v 0)
+    more-first : BitsTell places.mostVertices (suc i) (λ b v. eqb (loop ls b .header) v) (λ v. getD (markLoop marks header end i) v 0)
     unfolding markLoop
     more-first v b h =
         gained (gain marks header i) (places.mostVertices + end) i v b at-end
@@ -83,7 +84,7 @@ module _ (ls : List Loop) (ranged : Ranged ls) where
         ∙ (gained marks header i v b at-header
         ∙ (ap (λ (t : Bool). t || (eqb header v && eqb b i)) (ends .first v b h) ∙ one-more (λ k. eqb (loop ls k .header) v) b i))))
 
-    more-last : BitsTell (suc i) (λ b v. eqb (loop ls b .last) v) (λ v. getD (markLoop marks header end i) (places.mostVertices + v) 0)
+    more-last : BitsTell places.mostVertices (suc i) (λ b v. eqb (loop ls b .last) v) (λ v. getD (markLoop marks header end i) (places.mostVertices + v) 0)
     unfolding markLoop
     more-last v b h =
         gained (gain marks header i) (places.mostVertices + end) i (places.mostVertices + v) b at-end
@@ -120,8 +121,8 @@ module _ (ls : List Loop) (ranged : Ranged ls) where
   ends-all : Ends ls (length ls) (marksOf ls (length ls))
   ends-all = ends-up-to (length ls) (omega arith)
 
-  marks-headed : Headed ls (marksOf ls (length ls))
-  marks-headed = record { told = ends-all .first }
+  marks-headed : {n : ℕ} → n ≤ places.mostVertices → Headed n ls (marksOf ls (length ls))
+  marks-headed few = record { told = λ v b h. ends-all .first v b (omega arith) }
 
 -- Of a range from h to l: what is held over to v, or starts at v, is around v; of that, what does not end at v is held over to the next.
 module _ (h l v : ℕ) where
@@ -203,18 +204,15 @@ module _ (ls : List Loop) (ranged : Ranged ls) where
         ∙ (rw (around-v v h (held-over v (omega arith)), ends-all ls ranged .last v b h) (parted (ltb b (length ls)) (holds (loop ls b) v) (eqb closes v) true)
         ∙ if-loop (λ q. goes-on opens closes v))
 
-  marks-around : Around ls (table places.mostVertices (aroundAt marks))
-  marks-around =
-      record {
-        told = λ v b h. rw (getD-table places.mostVertices (aroundAt marks) v 0 h) (around-v b v h (held-over b v (omega arith)));
-      }
+  marks-around : {n : ℕ} {around : List ℕ} → n ≤ places.mostVertices → AroundTo n marks around → Around n ls around
+  marks-around few words = record { told = λ v b h. rw (words .word v h) (around-v b v (omega arith) (held-over b v (omega arith))) }
 
-module _ {ls : List Loop} (ranged : Ranged ls) {marks : List ℕ} (is : marks ≡ marksOf ls (length ls)) where
-  pub headed-is : Headed ls marks
-  headed-is = rw is (marks-headed ls ranged)
+module _ {n : ℕ} {ls : List Loop} (ranged : Ranged ls) (few : n ≤ places.mostVertices) {marks : List ℕ} (is : marks ≡ marksOf ls (length ls)) where
+  pub headed-is : Headed n ls marks
+  headed-is = rw is (marks-headed ls ranged few)
 
-  pub around-is : {around : List ℕ} → around ≡ table places.mostVertices (aroundAt marks) → Around ls around
-  around-is e = rw (e, is) (marks-around ls ranged)
+  pub around-is : {around : List ℕ} → AroundTo n marks around → Around n ls around
+  around-is words = marks-around ls ranged few (rw is at words)
 
 -- A word that has the numbers below n that pass a test.
 exists-bit : (n : ℕ) (test : ℕ → Bool) (w : ℕ) → ((k : ℕ) → has w k ≡ (ltb k n && test k)) → existsBelow n test ≡ not (eqb w 0)
@@ -230,7 +228,7 @@ exists-bit n test w told =
     nothing z i h = let t : has 0 i ≡ (ltb i n && test i) = rw z at (told i) in sym (rw (lt-ltb i n h) at t) ∙ has-zero i
 
 -- Rule 8 and 9, told by the words at an edge's ends.
-module _ {ls : List Loop} {around marks : List ℕ} (a : Around ls around) (h : Headed ls marks) (from to : ℕ) (f : from < places.mostVertices) (t : to < places.mostVertices) where
+module _ {n : ℕ} {ls : List Loop} {around marks : List ℕ} (a : Around n ls around) (h : Headed n ls marks) (from to : ℕ) (f : from < n) (t : to < n) where
   abbrev into : ℕ
   into = getD around to 0
 
@@ -276,15 +274,56 @@ module _ (es : List Edge) (around marks : List ℕ) where
   unfolding returnedBy
   returned-more k is f t = rw (add-one, is, f, t)
 
-module _ (es : List Edge) {ls : List Loop} {around marks : List ℕ} (a : Around ls around) (h : Headed ls marks)
-    (from-small : (i : ℕ) → i < length es → edge es i .from < places.mostVertices) (to-small : (i : ℕ) → i < length es → edge es i .to < places.mostVertices) where
+  module _ (ls : List Loop) where
+    abbrev wrong : ℕ → Bool
+    wrong i = wrongEdge ls (edge es i)
+
+    -- What a loop over the edges answers, at a wrong one and behind them all.
+    pub answers-wrong : {i : ℕ} → Searched (length es) wrong i → i < length es → wrong i ≡ true → Wrong i ≡ edgesAnswer es ls around marks
+    unfolding edgesAnswer
+    answers-wrong searched here is = rw (← exists-hit searched here is, ← hit searched here is)
+
+    pub answers-returns : {i word : ℕ} → Searched (length es) wrong i → length es ≤ i → word ≡ returnedBy es around marks (length es) → Returns word ≡ edgesAnswer es ls around marks
+    unfolding edgesAnswer
+    answers-returns searched over is = rw (← exists-none searched over, is)
+
+    -- What an answer says of rule 8.
+    pub wrong-says : {i : ℕ} → Wrong i ≡ edgesAnswer es ls around marks → Refused (WrongEdge i) ≡ broken (length es) wrong WrongEdge
+    unfolding edgesAnswer
+    wrong-says {i} e =
+        by-bool (existsBelow (length es) wrong)
+        (λ t. let q : Wrong i ≡ Wrong (lowestBelow (length es) wrong) = rw t at e in rw (t, same-edge q))
+        (λ t. let q : Wrong i ≡ Returns (returnedBy es around marks (length es)) = rw t at e in absurd (not-both q))
+      where
+        same-edge : {j k : ℕ} → Wrong j ≡ Wrong k → j ≡ k
+        same-edge q = cc
+
+        not-both : {j w : ℕ} → Wrong j ≡ Returns w → ⊥
+        not-both q = let z : _≡_ {A = ℕ} 0 1 = cc in omega arith
+
+    pub returns-say : {word : ℕ} → Returns word ≡ edgesAnswer es ls around marks →
+        (Accepted ≡ broken (length es) wrong WrongEdge) × (word ≡ returnedBy es around marks (length es))
+    unfolding edgesAnswer
+    returns-say {word} e =
+        by-bool (existsBelow (length es) wrong)
+        (λ t. let q : Returns word ≡ Wrong (lowestBelow (length es) wrong) = rw t at e in absurd (not-both q))
+        (λ t. let q : Returns word ≡ Returns (returnedBy es around marks (length es)) = rw t at e in (rw t, same-word q))
+      where
+        same-word : {j k : ℕ} → Returns j ≡ Returns k → j ≡ k
+        same-word q = cc
+
+        not-both : {j w : ℕ} → Returns w ≡ Wrong j → ⊥
+        not-both q = let z : _≡_ {A = ℕ} 0 1 = cc in omega arith
+
+module _ (es : List Edge) {n : ℕ} {ls : List Loop} {around marks : List ℕ} (a : Around n ls around) (h : Headed n ls marks)
+    (from-below : (i : ℕ) → i < length es → edge es i .from < n) (to-below : (i : ℕ) → i < length es → edge es i .to < n) where
   returned-up-to : (k j : ℕ) → k ≤ length es → j < length ls →
       has (returnedBy es around marks k) j ≡ existsBelow k (λ i. returnsTo (edge es i) (loop ls j))
   unfolding returnedBy
   returned-up-to zero j few lt = has-zero j ∙ sym (exists-first (λ i. returnsTo (edge es i) (loop ls j)))
   returned-up-to (suc k) j few lt =
       has-or (returnedBy es around marks k) (bitAnd (getD marks (edge es k .to) 0) (getD around (edge es k .from) 0)) j
-      ∙ rw (returned-up-to k j (omega arith) lt, returns-bit a h (edge es k .from) (edge es k .to) (from-small k few) (to-small k few) j, lt-ltb j (length ls) lt)
+      ∙ rw (returned-up-to k j (omega arith) lt, returns-bit a h (edge es k .from) (edge es k .to) (from-below k few) (to-below k few) j, lt-ltb j (length ls) lt)
       (sym (exists-more k (λ i. returnsTo (edge es i) (loop ls j))))
 
   pub told-returned : {word : ℕ} → word ≡ returnedBy es around marks (length es) → Returned es ls word

@@ -5,27 +5,28 @@ use model::Verdict;
 use model::places;
 use ranges::Marks;
 ghost use mathlib.Core.Path.{_≡_};
+ghost use Prim.Native.Nat.{_≤_};
 ghost use lib.ListN.{length};
 ghost use Rattle.model.specs.Places.{mostVertices};
 ghost use Rattle.model.specs.Graph.{edge, loop, wrongEdge, noReturn, broken, andThen};
-ghost use Rattle.model.specs.Numbers.{table};
 ghost use Rattle.model.specs.declared.Refusal.the-variants.{WrongEdge, NoEdgeBack};
 ghost use Rattle.facts.specs.Fields.{FieldFacts};
-ghost use Rattle.lookup.specs.Lists.{edgesIn, loopsIn};
+ghost use Rattle.lookup.specs.Lists.{verticesIn, edgesIn, loopsIn};
 ghost use Rattle.ranges.specs.Marks.{marksOf};
-ghost use Rattle.edges.specs.Words.{aroundAt, wrongBy, returnedBy, Around, Headed, Returned};
+ghost use Rattle.edges.specs.Words.{AroundTo, wrongBy, edgesAnswer, Around, Headed, Returned};
 
 // For each vertex the loops around it.
 type Words = [u32; places::MOST_VERTICES];
 
-// A loop is held over from its header to its last vertex.
-fn around_of(marks: &Marks) -> Words
-    ensures { λ r. ⌜ r ≡ table mostVertices (aroundAt (now (marks .entry))) ⌝ }
+// The words of the first `count` vertices. A loop is held over from its header to its last vertex.
+fn around_of(marks: &Marks, count: usize) -> Words
+    requires { ⌜ count ≤ mostVertices ⌝ }
+    ensures { λ r. ⌜ AroundTo count (now (marks .entry)) r ⌝ }
 {
     let mut around = [0u32; places::MOST_VERTICES];
     let mut held: u32 = 0;
     let mut v: usize = 0;
-    while v < places::MOST_VERTICES {
+    while v < count {
         let here = held | marks[v];
         let ended = marks[places::MOST_VERTICES + v];
         around[v] = here;
@@ -50,40 +51,35 @@ fn is_wrong(into: u32, out: u32, heads: u32, from: usize, to: usize) -> bool
     false
 }
 
-fn judge_edges(l: &Numbers, around: &Words, marks: &Marks) -> Verdict
-    requires { ⌜ FieldFacts (now l) ⌝ ∗ ⌜ Around (loopsIn (now l)) (now around) ⌝ ∗ ⌜ Headed (loopsIn (now l)) (now marks) ⌝ }
-    ensures { λ r. ⌜ r ≡ broken (length (edgesIn (now (l .entry)))) (λ i. wrongEdge (loopsIn (now (l .entry))) (edge (edgesIn (now (l .entry))) i)) WrongEdge ⌝ }
+// What the edges tell: the lowest wrong one, or if there is none the loops that they return to.
+enum EdgesAnswer {
+    Wrong(usize),
+    Returns(u32),
+}
+
+// Rule 8, and for rule 9 the loops to whose header an edge goes from inside their range.
+fn judge_edges(l: &Numbers, around: &Words, marks: &Marks) -> EdgesAnswer
+    requires { ⌜ FieldFacts (now l) ⌝ ∗ ⌜ Around (verticesIn (now l)) (loopsIn (now l)) (now around) ⌝ ∗ ⌜ Headed (verticesIn (now l)) (loopsIn (now l)) (now marks) ⌝ }
+    ensures { λ r. ⌜ r ≡ edgesAnswer (edgesIn (now (l .entry))) (loopsIn (now (l .entry))) (now (around .entry)) (now (marks .entry)) ⌝ }
 {
     let count = lookup::edge_count(l);
+    let mut returned: u32 = 0;
     let mut i: usize = 0;
     while i < count {
         let from = lookup::edge_from(l, i);
         let to = lookup::edge_to(l, i);
-        if is_wrong(around[to], around[from], marks[to], from, to) {
-            return Verdict::Refused(Refusal::WrongEdge(i as u64));
+        let heads = marks[to];
+        let out = around[from];
+        if is_wrong(around[to], out, heads, from, to) {
+            return EdgesAnswer::Wrong(i);
         }
+        returned = returned | (heads & out);
         i += 1;
     }
-    Verdict::Accepted
+    EdgesAnswer::Returns(returned)
 }
 
 // Rule 9. Every loop has an edge from inside its range to its header.
-fn returned_to(l: &Numbers, around: &Words, marks: &Marks) -> u32
-    requires { ⌜ FieldFacts (now l) ⌝ }
-    ensures { λ r. ⌜ r ≡ returnedBy (edgesIn (now (l .entry))) (now (around .entry)) (now (marks .entry)) (length (edgesIn (now (l .entry)))) ⌝ }
-{
-    let count = lookup::edge_count(l);
-    let mut word: u32 = 0;
-    let mut i: usize = 0;
-    while i < count {
-        let from = lookup::edge_from(l, i);
-        let to = lookup::edge_to(l, i);
-        word = word | (marks[to] & around[from]);
-        i += 1;
-    }
-    word
-}
-
 fn judge_returns(l: &Numbers, returned: u32) -> Verdict
     requires { ⌜ FieldFacts (now l) ⌝ ∗ ⌜ Returned (edgesIn (now l)) (loopsIn (now l)) returned ⌝ }
     ensures { λ r. ⌜ r ≡ broken (length (loopsIn (now (l .entry)))) (λ j. noReturn (edgesIn (now (l .entry))) (loop (loopsIn (now (l .entry))) j)) NoEdgeBack ⌝ }
@@ -105,10 +101,10 @@ pub fn judge_words(l: &Numbers, marks: Marks) -> Verdict
     ensures { λ r. ⌜ r ≡ andThen (broken (length (edgesIn (now (l .entry)))) (λ i. wrongEdge (loopsIn (now (l .entry))) (edge (edgesIn (now (l .entry))) i)) WrongEdge)
         (broken (length (loopsIn (now (l .entry)))) (λ j. noReturn (edgesIn (now (l .entry))) (loop (loopsIn (now (l .entry))) j)) NoEdgeBack) ⌝ }
 {
-    let around = around_of(&marks);
+    let around = around_of(&marks, lookup::vertex_count(l));
     let edges = judge_edges(l, &around, &marks);
-    let Verdict::Accepted = edges else {
-        return edges;
-    };
-    judge_returns(l, returned_to(l, &around, &marks))
+    match edges {
+        EdgesAnswer::Wrong(i) => Verdict::Refused(Refusal::WrongEdge(i as u64)),
+        EdgesAnswer::Returns(returned) => judge_returns(l, returned),
+    }
 }
