@@ -26,8 +26,8 @@ fn zero_last(left: usize, b: u64) -> bool
     false
 }
 
-// The number at a position: groups of seven bits, the lowest first.
-pub fn read_number(bytes: &[u8], at: usize) -> Number
+// The number at a position, group by group: groups of seven bits, the lowest first.
+fn read_groups(bytes: &[u8], at: usize) -> Number
     ensures { λ r. ⌜ r ≡ readNumber (now (bytes .entry)) at ⌝ }
 {
     let mut left: usize = 5;
@@ -54,6 +54,19 @@ pub fn read_number(bytes: &[u8], at: usize) -> Number
         pos += 1;
     }
     Number::Misspelt
+}
+
+// The number at a position. Most take one byte, and are read at once.
+pub fn read_number(bytes: &[u8], at: usize) -> Number
+    ensures { λ r. ⌜ r ≡ readNumber (now (bytes .entry)) at ⌝ }
+{
+    if at < bytes.len() {
+        let b = bytes[at] as u64;
+        if b < 128 {
+            return Number::Value(b, at + 1);
+        }
+    }
+    read_groups(bytes, at)
 }
 
 // How many bytes a number takes.
