@@ -1,4 +1,4 @@
--- A refusal is no good answer: what says that it is one proves anything.
+-- A refusal is no good answer: what says that it is one proves anything. And what is said of an answer is said of its outcome.
 use Prim.Native.Nat.{ℕ}
 use mathlib.Core.Path.{_≡_, refl, ap}
 use native.Mathlib.Omega.{arith}
