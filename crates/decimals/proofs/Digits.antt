@@ -1,5 +1,5 @@
 -- A number's digits: one digit more, how many there are, and the last of them.
-use Prim.Native.Nat.{ℕ, zero, suc, _+_, _*_, _/_, _%_, _^_, _≤_, _<_}
+use Prim.Native.Nat.{ℕ, zero, suc, _+_, _-_, _/_, _%_, _^_, _≤_, _<_}
 use native.Mathlib.Omega.{arith}
 use native.Mathlib.Decide.{decLt}
 use mathlib.Core.Path.{_≡_, refl, sym, ap, _∙_}
@@ -10,6 +10,7 @@ use lib.Dec.{ltb}
 use borrow.Author.Tests.{lt-ltb, le-ltb}
 use Rattle.model.specs.Decimals.{digitsOf, decimal}
 use Rattle.model.proofs.Cases.{by-less, by-order}
+use Rattle.decimals.specs.Digits.{mostDigits}
 
 digits-onto : (k n : ℕ) (s t : List ℕ) → digitsOf k n s ++ t ≡ digitsOf k n (s ++ t)
 unfolding digitsOf
@@ -62,5 +63,5 @@ few-digits (suc k) n h =
     by-order n 10 (λ small. omega (arith, short-size n small))
     (λ large. omega (arith, long-size n large, few-digits k (n / 10) (omega arith)))
 
-pub word-digits : (n : ℕ) → n < 2 ^ 64 → length (decimal n) ≤ 20
-word-digits n h = few-digits 19 n (omega arith)
+pub word-digits : (n : ℕ) → n < 2 ^ 64 → length (decimal n) ≤ mostDigits
+word-digits n h = few-digits (mostDigits - 1) n (omega arith)

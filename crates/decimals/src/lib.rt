@@ -5,6 +5,9 @@ ghost use lib.ListN.{length};
 ghost use Rattle.model.specs.Decimals.{decimal};
 ghost use Rattle.decimals.specs.Written.{Written};
 
+// How many digits a number of 64 bits has at most.
+pub const MOST_DIGITS: usize = 20;
+
 // How many digits a number takes.
 pub fn decimal_size(n: u64) -> usize
     ensures { λ r. ⌜ r ≡ length (decimal n) ⌝ }

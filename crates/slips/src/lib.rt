@@ -7,19 +7,23 @@ ghost use mathlib.Core.List.{_++_};
 ghost use lib.ListN.{length};
 ghost use Rattle.model.specs.Decimals.{decimal};
 ghost use Rattle.model.specs.Slips.{refusalLine, resultLines, boundSlip};
+ghost use Rattle.decimals.specs.Digits.{mostDigits};
 ghost use Rattle.decimals.specs.Written.{Written};
 
-// Room for four lines: a label of at most 8 bytes, at most 20 digits, and the line's end.
-pub const ROOM: usize = 4 * (8 + 20 + 1);
+// A label has at most so many bytes.
+const LABEL_ROOM: usize = 8;
+
+// Room for four lines: a label, a number and the line's end.
+pub const ROOM: usize = 4 * (LABEL_ROOM + decimals::MOST_DIGITS + 1);
 
 // What a caller lends for a slip.
 pub type Slip = [u8; ROOM];
 
-// A label and a number, which has at most 20 digits, at a position. Answers the position after them.
+// A label and a number, at a position. Answers the position after them.
 fn write_number(buf: &mut [u8], at: usize, label: &[u8], n: u64) -> usize
-    requires { ⌜ at + length (now label) + 20 ≤ length (now buf) ⌝ }
+    requires { ⌜ at + length (now label) + mostDigits ≤ length (now buf) ⌝ }
     ensures { λ r. ⌜ Written (now (buf .entry)) at (now (label .entry) ++ decimal n) (now (buf .exit)) r ⌝ }
-    ensures { λ r. ⌜ r ≤ at + length (now (label .entry)) + 20 ⌝ }
+    ensures { λ r. ⌜ r ≤ at + length (now (label .entry)) + mostDigits ⌝ }
 {
     let behind = decimals::write_text(buf, at, label);
     decimals::write_decimal(buf, behind, n)
@@ -27,9 +31,9 @@ fn write_number(buf: &mut [u8], at: usize, label: &[u8], n: u64) -> usize
 
 // The same, and what ends the line.
 fn write_line(buf: &mut [u8], at: usize, label: &[u8], n: u64, end: &[u8]) -> usize
-    requires { ⌜ at + length (now label) + 20 + length (now end) ≤ length (now buf) ⌝ }
+    requires { ⌜ at + length (now label) + mostDigits + length (now end) ≤ length (now buf) ⌝ }
     ensures { λ r. ⌜ Written (now (buf .entry)) at (now (label .entry) ++ decimal n ++ now (end .entry)) (now (buf .exit)) r ⌝ }
-    ensures { λ r. ⌜ r ≤ at + length (now (label .entry)) + 20 + length (now (end .entry)) ⌝ }
+    ensures { λ r. ⌜ r ≤ at + length (now (label .entry)) + mostDigits + length (now (end .entry)) ⌝ }
 {
     let behind = write_number(buf, at, label, n);
     decimals::write_text(buf, behind, end)
