@@ -8,8 +8,9 @@ use lib.ListN.{getD}
 use lib.Dec.{eqb, ltb, leb}
 use borrow.Author.Tests.{eq-eqb, ne-eqb, lt-ltb, le-ltb, lt-leb, le-leb}
 use Rattle.model.specs.declared.Field.{Field}
-use Rattle.model.specs.Table.{bases, base, kind, countKind, firstKind, lastKind, jump, countOver, least, greatest}
+use Rattle.model.specs.Table.{bases, base, kinds, kind, countKind, firstKind, lastKind, jump, countOver, least, greatest}
 use Rattle.model.specs.File.{afterCount, afterItem, nextField, belowCount, fromHeader, inRange, edgeBefore, edgeSpan, loopSpan, ascends, itemStart}
+use Rattle.model.proofs.Cases.{by-bool}
 use Rattle.fields.proofs.Rows.{jump-below, count-below}
 use Rattle.model.specs.Places as places
 use Rattle.model.specs.Rows as rows
@@ -135,6 +136,13 @@ module _ (l : List ℕ) (c : Field) (b : ℕ) (is : b ≡ base (c .row)) where
       pub no-order : (c .row ≡ rows.bound → ⊥) → true ≡ ascends l c
       unfolding ascends
       no-order q = simp (later-item, ne-eqb (c .row) rows.to m, ne-eqb (c .row) rows.bound q)
+
+-- A number that is not an item's last breaks no order.
+pub within-item : (l : List ℕ) (c : Field) (k : ℕ) → k ≡ kind (c .row) → (k ≡ lastKind → ⊥) → true ≡ ascends l c
+unfolding ascends kinds
+within-item l c k is n =
+    by-bool (eqb (c .place) (base (c .row))) (λ e. simp e)
+    (λ e. simp (e, ne-eqb (c .row) rows.to (λ q. n (is ∙ ap kind q)), ne-eqb (c .row) rows.bound (λ q. n (is ∙ ap kind q))))
 
 -- An item's last number has the numbers before it that the order looks at.
 pub edge-place : (row place : ℕ) → base row ≤ place → row ≡ rows.to → places.edgeWidth + edgeSpan ≤ place

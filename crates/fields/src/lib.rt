@@ -227,7 +227,7 @@ pub fn edge_before(from: u64, to: u64, from2: u64, to2: u64) -> bool
 }
 
 // Whether the item whose last number stands at c may follow the item before it.
-pub fn ascends(table: &Table, l: &Numbers, c: Field) -> bool
+fn item_ascends(table: &Table, l: &Numbers, c: Field) -> bool
     requires { ⌜ now table ≡ entries ⌝ }
     requires { ⌜ Placed c ⌝ }
     ensures { λ r. ⌜ r ≡ Rattle.model.specs.File.ascends (now (l .entry)) c ⌝ }
@@ -248,6 +248,18 @@ pub fn ascends(table: &Table, l: &Numbers, c: Field) -> bool
         return l[k - LOOP_BEFORE_SPAN] < l[k - LOOP_SPAN];
     }
     true
+}
+
+// The same at any field: only an item's last number can break the order.
+pub fn ascends(table: &Table, l: &Numbers, c: Field) -> bool
+    requires { ⌜ now table ≡ entries ⌝ }
+    requires { ⌜ Placed c ⌝ }
+    ensures { λ r. ⌜ r ≡ Rattle.model.specs.File.ascends (now (l .entry)) c ⌝ }
+{
+    if look_up(table, c.row, KIND) != LAST {
+        return true;
+    }
+    item_ascends(table, l, c)
 }
 
 // Where the item that c belongs to starts, if c stands at a position and `start` was said of the field before.
