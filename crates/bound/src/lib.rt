@@ -12,7 +12,7 @@ ghost use Rattle.model.specs.Layouts.{needOf};
 ghost use Rattle.model.specs.Operations.{Checked};
 ghost use Rattle.model.specs.Results.{BoundSays};
 ghost use Rattle.model.specs.Outcomes.{boundOutcome, IsBounded};
-ghost use Rattle.layout.specs.Regions.{KnownRegions};
+ghost use Rattle.regions.specs.Regions.{KnownRegions};
 ghost use Rattle.bound.specs.Priced.{Priced};
 
 // What a layout that fits costs: the part of Bound after the checks.

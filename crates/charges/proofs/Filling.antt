@@ -15,7 +15,7 @@ use Rattle.model.specs.Costs.{total, howMany}
 use Rattle.model.specs.Charges.{visitCharge}
 use Rattle.model.proofs.Cases.{by-cond, by-order}
 use Rattle.model.proofs.Lists.{getD-replicate-self}
-use Rattle.layout.proofs.Sums.{Upto, turn, end, total-more, total-high}
+use Rattle.regions.proofs.Sums.{Upto, turn, end, total-more, total-high}
 use Rattle.charges.specs.Tests.{Tallied, chargeLimit, Charged}
 use Rattle.charges.proofs.Sizes.{visit-high}
 

@@ -11,7 +11,7 @@ use Rattle.model.specs.Charges.{visitCharge, firstLoads}
 use Rattle.model.proofs.Cases.{by-cond}
 use Rattle.facts.specs.Fields.{FieldFacts}
 use Rattle.lookup.proofs.Places.{facts, few-functions, load-high, function-below, cost-high}
-use Rattle.layout.proofs.Sums.{Upto, total-more, total-high}
+use Rattle.regions.proofs.Sums.{Upto, total-more, total-high}
 use Rattle.charges.specs.Tests.{chargeLimit, firstLoad, firstLimit, LoadedFirst}
 use Rattle.model.specs.Limits as limits
 

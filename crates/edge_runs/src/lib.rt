@@ -1,6 +1,6 @@
 // Runs of edges. Most of a large file is edges, so those that are sure to pass are taken at once: behind the list's first edge and before its last,
 // each a byte a number, in range and ascending. What ends a run is left to the steps from field to field.
-use fields::EDGE_SPAN;
+use field_rules::EDGE_SPAN;
 use model::Field;
 use model::Numbers;
 use model::places;
@@ -56,7 +56,7 @@ fn follows(numbers: &Numbers, place: usize, vertices: u64, from: u64, to: u64) -
         return false;
     }
     let before = place - EDGE_WIDTH;
-    fields::edge_before(numbers[before], numbers[before + EDGE_SPAN], from, to)
+    field_rules::edge_before(numbers[before], numbers[before + EDGE_SPAN], from, to)
 }
 
 // Reads a run from the field on, and answers how many edges it has.

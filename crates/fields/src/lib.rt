@@ -16,24 +16,24 @@ ghost use lib.ListN.{getD};
 ghost use Rattle.fields.specs.Valid.{Placed};
 ghost use Rattle.fields.specs.Rows.{columns, entry, entries};
 ghost use Rattle.model.specs.Rows;
-ghost use Rattle.model.specs.File.{nextField, afterCount, afterItem, inRange, belowCount, fromHeader, edgeBefore, itemStart};
+ghost use Rattle.model.specs.File.{nextField, afterCount, afterItem, itemStart};
 
 // The columns of the field table. First the least and the greatest value of a row.
-const LEAST: usize = 0;
+pub const LEAST: usize = 0;
 
-const GREATEST: usize = 1;
+pub const GREATEST: usize = 1;
 
 // The place of the row's first number.
-const BASE: usize = 2;
+pub const BASE: usize = 2;
 
 // What the row is, one of the kinds below.
-const KIND: usize = 3;
+pub const KIND: usize = 3;
 
 // Where the count of an empty list leads, and an item's last number where another item follows.
 const JUMP: usize = 4;
 
 // The place of the count that the row's numbers stay below, or 0.
-const UNDER: usize = 5;
+pub const UNDER: usize = 5;
 
 const COLUMNS: usize = UNDER + 1;
 
@@ -46,7 +46,7 @@ const FIRST: usize = 2;
 
 const BETWEEN: usize = 3;
 
-const LAST: usize = 4;
+pub const LAST: usize = 4;
 
 // Where the lists' counts stand.
 const FUNCTIONS: usize = places::FUNCTION_COUNT;
@@ -80,18 +80,6 @@ const TABLE: Table = [
     [0, 0, places::END, ALONE, 0, 0],
 ];
 
-// How far behind an item's first number its last stands, and behind the first number of the item before.
-pub const EDGE_SPAN: usize = places::TO - places::FROM;
-
-const EDGE_BEFORE_SPAN: usize = places::EDGE_WIDTH + EDGE_SPAN;
-
-const LOOP_SPAN: usize = places::BOUND - places::HEADER;
-
-const LOOP_BEFORE_SPAN: usize = places::LOOP_WIDTH + LOOP_SPAN;
-
-// How far behind a loop's header its last vertex stands.
-const LAST_SPAN: usize = places::LAST - places::HEADER;
-
 // The table in memory: who goes through the fields has it made once, and lends it to every step.
 pub fn table() -> Table
     ensures { λ r. ⌜ r ≡ entries ⌝ }
@@ -99,7 +87,8 @@ pub fn table() -> Table
     TABLE
 }
 
-fn look_up(table: &Table, row: usize, column: usize) -> usize
+// The number of a row in a column.
+pub fn look_up(table: &Table, row: usize, column: usize) -> usize
     requires { ⌜ now table ≡ entries ⌝ }
     requires { ⌜ row < Rows.end + 1 ⌝ }
     requires { ⌜ column < columns ⌝ }
@@ -168,98 +157,6 @@ pub fn next_field(table: &Table, c: Field, v: u64) -> Field
         place: c.place + 1,
         left: c.left,
     }
-}
-
-// Where a count read earlier narrows the row: v stays below it.
-fn below_count(table: &Table, l: &Numbers, row: usize, v: u64) -> bool
-    requires { ⌜ now table ≡ entries ⌝ }
-    requires { ⌜ row < Rows.end ⌝ }
-    ensures { λ r. ⌜ r ≡ belowCount (now (l .entry)) row v ⌝ }
-{
-    let over = look_up(table, row, UNDER);
-    if over == 0 {
-        return true;
-    }
-    v < l[over]
-}
-
-// A loop's last vertex is not below its header.
-fn from_header(l: &Numbers, c: Field, v: u64) -> bool
-    requires { ⌜ Placed c ⌝ }
-    ensures { λ r. ⌜ r ≡ fromHeader (now (l .entry)) c v ⌝ }
-{
-    if c.row == rows::LAST {
-        let header = c.place - LAST_SPAN;
-        return l[header] <= v;
-    }
-    true
-}
-
-// Whether v may stand at c, where l has the numbers before it.
-pub fn in_range(table: &Table, l: &Numbers, c: Field, v: u64) -> bool
-    requires { ⌜ now table ≡ entries ⌝ }
-    requires { ⌜ Placed c ⌝ }
-    ensures { λ r. ⌜ r ≡ inRange (now (l .entry)) c v ⌝ }
-{
-    if v < look_up(table, c.row, LEAST) as u64 {
-        return false;
-    }
-    if (look_up(table, c.row, GREATEST) as u64) < v {
-        return false;
-    }
-    if !below_count(table, l, c.row, v) {
-        return false;
-    }
-    from_header(l, c, v)
-}
-
-// Edges ascend strictly by (from, to).
-pub fn edge_before(from: u64, to: u64, from2: u64, to2: u64) -> bool
-    ensures { λ r. ⌜ r ≡ edgeBefore from to from2 to2 ⌝ }
-{
-    if from < from2 {
-        return true;
-    }
-    if from == from2 {
-        return to < to2;
-    }
-    false
-}
-
-// Whether the item whose last number stands at c may follow the item before it.
-fn item_ascends(table: &Table, l: &Numbers, c: Field) -> bool
-    requires { ⌜ now table ≡ entries ⌝ }
-    requires { ⌜ Placed c ⌝ }
-    ensures { λ r. ⌜ r ≡ Rattle.model.specs.File.ascends (now (l .entry)) c ⌝ }
-{
-    let k = c.place;
-    if k == look_up(table, c.row, BASE) {
-        return true;
-    }
-    if c.row == rows::TO {
-        return edge_before(
-            l[k - EDGE_BEFORE_SPAN],
-            l[k - places::EDGE_WIDTH],
-            l[k - EDGE_SPAN],
-            l[k],
-        );
-    }
-    if c.row == rows::BOUND {
-        return l[k - LOOP_BEFORE_SPAN] < l[k - LOOP_SPAN];
-    }
-    true
-}
-
-// The same at any field: only an item's last number can break the order.
-pub fn ascends(table: &Table, l: &Numbers, c: Field) -> bool
-    requires { ⌜ now table ≡ entries ⌝ }
-    requires { ⌜ Placed c ⌝ }
-    ensures { λ r. ⌜ r ≡ Rattle.model.specs.File.ascends (now (l .entry)) c ⌝ }
-{
-    if look_up(table, c.row, KIND) != LAST {
-        return true;
-    }
-    item_ascends(table, l, c)
 }
 
 // Where the item that c belongs to starts, if c stands at a position and `start` was said of the field before.

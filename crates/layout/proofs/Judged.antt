@@ -1,11 +1,9 @@
--- What the regions of a checked problem's layout come to at most, and the refusals 11 to 13 as answers.
-use Prim.Native.Nat.{ℕ, _+_, _*_, _≤_, _<_}
+-- The refusals 11 to 13 as answers.
+use Prim.Native.Nat.{ℕ, _≤_, _<_}
 use mathlib.Core.Path.{_≡_, refl, sym, ap, _∙_}
 use mathlib.Core.List.{List}
 use mathlib.Core.Bool.{cond}
-use native.Mathlib.Omega.{arith}
-use lib.ListN.{length}
-use lib.Dec.{eqb, ltb}
+use lib.Dec.{ltb}
 use borrow.Author.Tests.{lt-ltb, le-ltb}
 use Rattle.model.specs.declared.Refusal.{Refusal}
 use Rattle.model.specs.declared.Verdict.{Verdict}
@@ -13,34 +11,11 @@ use Rattle.model.specs.declared.Verdict.the-variants as verdict
 use Rattle.model.specs.declared.Bytes.{Bytes}
 use Rattle.model.specs.declared.Problem.{Problem}
 use Rattle.model.specs.Zero.{bytes}
-use Rattle.model.specs.Numbers.{problemOf}
-use Rattle.model.specs.Operations.{Checked}
 use Rattle.model.specs.Graph.{andThen}
-use Rattle.model.specs.Costs.{total}
-use Rattle.model.specs.Layouts.{regionOf, largestIn, needOf, judgeLength, judgeRegions, judgeNeed, judgeLayout}
-use Rattle.model.proofs.Cases.{by-cond}
+use Rattle.model.specs.Layouts.{needOf, judgeLength, judgeRegions, judgeNeed, judgeLayout}
 use Rattle.layout.specs.declared.LayoutAnswer.{LayoutAnswer}
 use Rattle.layout.specs.declared.LayoutAnswer.the-variants.{Fits, Refused}
 use Rattle.layout.specs.Answers.{layoutAnswer}
-use Rattle.lookup.proofs.Places.{facts, size-high}
-use Rattle.layout.proofs.Sums.{largest-high, total-high}
-use Rattle.model.specs.Limits as limits
-
-module _ (l : List ℕ) (checked : Checked l) (layout : List ℕ) where
-  pub largest-in-high : (r : ℕ) → largestIn (problemOf l) layout r ≤ limits.mostBytes
-  unfolding largestIn
-  largest-in-high r =
-      largest-high _ (problemOf l .«function_count») limits.mostBytes
-      (λ f below. by-cond (λ (x : ℕ). x ≤ limits.mostBytes) (eqb (regionOf layout f) r) (λ e. size-high l (facts _ checked) f below) (λ e. omega arith))
-
-  -- A sum over some of the regions, with the next one's bytes.
-  pub sum-high : (r : ℕ) → r < limits.mostRegions → total r (largestIn (problemOf l) layout) + largestIn (problemOf l) layout r ≤ limits.mostRegions * limits.mostBytes
-  sum-high r below =
-      omega (
-        arith,
-        largest-in-high r,
-        total-high (largestIn (problemOf l) layout) r limits.mostBytes (λ k h. largest-in-high k),
-      )
 
 -- A check that refuses where a number, here known as n, is below another.
 module _ {a n b : ℕ} (is : a ≡ n) (refusal : ℕ → Refusal) where

@@ -1,4 +1,1 @@
-pub mod Sums
-pub mod Sizes
 pub mod Judged
-pub mod Through13

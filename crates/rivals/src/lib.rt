@@ -6,7 +6,7 @@ ghost use mathlib.Core.Path.{_≡_};
 ghost use lib.ListN.{length};
 ghost use Rattle.model.specs.Numbers.{problemOf};
 ghost use Rattle.model.specs.Operations.{Checked};
-ghost use Rattle.layout.specs.Regions.{KnownRegions};
+ghost use Rattle.regions.specs.Regions.{KnownRegions};
 ghost use Rattle.rivals.specs.Rivals.{Members, RivalTable};
 ghost use Rattle.model.specs.Places as places;
 
@@ -19,7 +19,7 @@ fn members_of(l: &Numbers, layout: &[u8], members: &mut [u32; limits::MOST_REGIO
     let count = lookup::function_count(l);
     let mut f: usize = 0;
     while f < count {
-        let region = layout::region_of(layout, f);
+        let region = regions::region_of(layout, f);
         members[region] = members[region] | (1u32 << f);
         f += 1;
     }
@@ -35,7 +35,7 @@ pub fn fill_rivals(l: &Numbers, layout: &[u8], rivals: &mut [u32; places::MOST_F
     let count = lookup::function_count(l);
     let mut f: usize = 0;
     while f < count {
-        let region = layout::region_of(layout, f);
+        let region = regions::region_of(layout, f);
         rivals[f] = bits::without(members[region], f);
         f += 1;
     }

@@ -19,7 +19,7 @@ use Rattle.model.specs.Operations.{Checked}
 use Rattle.model.specs.Graph.{andThen}
 use Rattle.model.specs.Verdicts.{walkLimit, judgeBound, judgeWalk, judgeRun}
 use Rattle.model.specs.Results.{runAfter, runWalk, regionsAfter, runRegions}
-use Rattle.layout.proofs.Through13.{regions-known}
+use Rattle.through13.proofs.Through13.{regions-known}
 use Rattle.simulation.specs.Running.{Ran, Runnable}
 
 module _ (p : Problem) (layout walk regions : List ℕ) where

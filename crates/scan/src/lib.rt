@@ -50,13 +50,13 @@ pub fn read_fields(bytes: &[u8], numbers: &mut Numbers) -> FieldsAnswer
         let Number::Value(value, next) = number else {
             return misread_at(number, bytes.len(), at);
         };
-        if !fields::in_range(&table, numbers, field, value) {
+        if !field_rules::in_range(&table, numbers, field, value) {
             return FieldsAnswer::Refused(Refusal::OutOfRange(at as u64));
         }
         let place = field.place;
         numbers[place] = value;
         start = fields::item_start(&table, field, at, start);
-        if !fields::ascends(&table, numbers, field) {
+        if !field_rules::ascends(&table, numbers, field) {
             return FieldsAnswer::Refused(Refusal::NotAscending(start as u64));
         }
         field = fields::next_field(&table, field, value);
@@ -79,11 +79,11 @@ pub fn check_fields(numbers: &Numbers) -> FieldsAnswer
         at += places::EDGE_WIDTH * run;
         let place = field.place;
         let value = numbers[place];
-        if !fields::in_range(&table, numbers, field, value) {
+        if !field_rules::in_range(&table, numbers, field, value) {
             return FieldsAnswer::Refused(Refusal::OutOfRange(at as u64));
         }
         start = fields::item_start(&table, field, at, start);
-        if !fields::ascends(&table, numbers, field) {
+        if !field_rules::ascends(&table, numbers, field) {
             return FieldsAnswer::Refused(Refusal::NotAscending(start as u64));
         }
         field = fields::next_field(&table, field, value);

@@ -26,7 +26,7 @@ use Rattle.simulation.specs.Running.{Places, Costs, Ran, Visiting, Visit
 use Rattle.walk.proofs.Lawful.{entries-known}
 use Rattle.model.specs.Places.{mostFunctions}
 use Rattle.model.specs.Limits as limits
-use Rattle.layout.specs.Regions.{KnownRegions}
+use Rattle.regions.specs.Regions.{KnownRegions}
 
 -- A visit to v over the definitions, with v's function f and its region r: whether it finds f held, and what it leaves.
 module _ (p : Problem) (layout h : List ℕ) (v f r : ℕ) (fn-is : functionOf p v ≡ f) (region-is : regionOf layout (functionOf p v) ≡ r)

@@ -16,7 +16,7 @@ use Rattle.model.specs.Runs.{cycles, loads, heldAfter}
 use Rattle.model.specs.Verdicts.{judgeWalk, walkLimit}
 use Rattle.model.specs.Places.{mostVertices}
 use Rattle.model.specs.Limits as limits
-use Rattle.layout.specs.Regions.{KnownRegions}
+use Rattle.regions.specs.Regions.{KnownRegions}
 
 -- The state of a run after a history: what Run gives.
 pub record Ran (p : Problem) (layout h held : List ℕ) (run : Run) : Type 0 where

@@ -37,7 +37,7 @@ fn place_table(l: &Numbers, layout: &[u8]) -> [usize; PAIR_COUNT]
     while v < count {
         let f = lookup::function_of(l, v);
         table[2 * v] = f;
-        table[2 * v + 1] = layout::region_of(layout, f);
+        table[2 * v + 1] = regions::region_of(layout, f);
         v += 1;
     }
     table

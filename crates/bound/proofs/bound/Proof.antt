@@ -6,7 +6,7 @@ use Rattle.model.specs.Results.{BoundSays}
 use Rattle.model.specs.Outcomes.{boundOutcome}
 use Rattle.model.proofs.Answers.{said-outcome}
 use Rattle.file.proofs.Opened.{same-problem, opened}
-use Rattle.layout.proofs.Through13.{refused-early}
+use Rattle.through13.proofs.Through13.{refused-early}
 use Rattle.bound.proofs.Stages.{refused-says}
 use borrow.Author.Needs.{needs}
 use Rattle.bound.proofs.bound.Statement.{statement}

@@ -1,7 +1,7 @@
 -- `bound_checked` meets Bound's definition on checked numbers: the layout, and its price.
 use mathlib.Core.Path.{sym, ap, _∙_}
 use Rattle.layout.specs.Answers.{layoutVerdict}
-use Rattle.layout.proofs.Through13.{Through, refused-layout, through, regions-known}
+use Rattle.through13.proofs.Through13.{Through, refused-layout, through, regions-known}
 use Rattle.bound.proofs.Stages.{refused-says, priced-says}
 use borrow.Author.Needs.{needs}
 use Rattle.bound.proofs.bound_checked.Statement.{statement}

@@ -6,7 +6,7 @@ use borrow.Author.Needs.{needs}
 use Rattle.model.specs.Numbers.{problemOf}
 use Rattle.model.specs.Costs.{total}
 use Rattle.model.specs.Charges.{firstLoads}
-use Rattle.layout.proofs.Sums.{Upto, turn, end, total-more}
+use Rattle.regions.proofs.Sums.{Upto, turn, end, total-more}
 use Rattle.bits.specs.Tests.{has}
 use Rattle.charges.specs.Tests.{firstLoad}
 use Rattle.charges.proofs.Sizes.{loads-fit, loaded-first}

@@ -2,7 +2,7 @@
 use Rattle.model.specs.Outcomes.{runOutcome}
 use Rattle.model.proofs.Answers.{equal-outcome}
 use Rattle.file.proofs.Opened.{same-problem, opened}
-use Rattle.layout.proofs.Through13.{refused-early}
+use Rattle.through13.proofs.Through13.{refused-early}
 use Rattle.run.proofs.Stages.{of-same, not-begun}
 use borrow.Author.Needs.{needs}
 use Rattle.run.proofs.run.Statement.{statement}

@@ -4,7 +4,7 @@ use Rattle.model.specs.declared.Verdict.the-variants.{Accepted}
 use Rattle.model.specs.Numbers.{problemOf}
 use Rattle.model.specs.Verdicts.{judgeBound}
 use Rattle.layout.specs.Answers.{layoutVerdict}
-use Rattle.layout.proofs.Through13.{refused-layout, through}
+use Rattle.through13.proofs.Through13.{refused-layout, through}
 use Rattle.run.proofs.Stages.{not-begun, too-long, bad-entry, runnable, ran}
 use borrow.Author.Needs.{needs}
 use Rattle.run.proofs.run_checked.Statement.{statement}

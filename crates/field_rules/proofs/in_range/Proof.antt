@@ -5,9 +5,9 @@ use native.Mathlib.Omega.{arith}
 use borrow.Author.Needs.{needs}
 use borrow.Author.Tests.{not-true, not-false}
 use Rattle.model.specs.Table.{least, greatest}
 use Rattle.fields.proofs.Laws.{too-low, too-high, past-count, within}
-use Rattle.fields.proofs.in_range.Statement.{statement}
-use Rattle.fields.proofs.in_range.Tie as tie
+use Rattle.field_rules.proofs.in_range.Statement.{statement}
+use Rattle.field_rules.proofs.in_range.Tie as tie
 
 -- From a state back to one before it.
 abbrev entry : tie.Else1 → tie.Start

@@ -1,7 +1,7 @@
 -- `edge_before` meets its definition, in its three cases.
 use Rattle.fields.proofs.Laws.{higher, level, lower}
-use Rattle.fields.proofs.edge_before.Statement.{statement}
-use Rattle.fields.proofs.edge_before.Tie as tie
+use Rattle.field_rules.proofs.edge_before.Statement.{statement}
+use Rattle.field_rules.proofs.edge_before.Tie as tie
 
 returns : tie.Need-returns
 returns c = higher _ _ _ _ (c .if1 .taken)

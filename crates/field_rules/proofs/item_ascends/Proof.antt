@@ -2,10 +2,10 @@
 use Prim.Native.Nat.{_+_, _≤_}
 use native.Mathlib.Omega.{arith}
 use Rattle.model.specs.File.{edgeSpan, loopSpan}
 use Rattle.fields.proofs.Laws.{first-item, edge-ascends, loop-ascends, no-order, edge-place, loop-place}
 use borrow.Author.Needs.{needs}
-use Rattle.fields.proofs.item_ascends.Statement.{statement}
-use Rattle.fields.proofs.item_ascends.Tie as tie
+use Rattle.field_rules.proofs.item_ascends.Statement.{statement}
+use Rattle.field_rules.proofs.item_ascends.Tie as tie
 use Rattle.model.specs.Places as places
 
 -- From a state back to one before it.

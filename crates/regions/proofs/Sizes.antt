@@ -13,8 +13,8 @@ use Rattle.model.specs.Costs.{sizeOf, largest}
 use Rattle.model.specs.Limits.{mostRegions}
 use Rattle.model.specs.Layouts.{regionOf, largestIn}
 use Rattle.model.proofs.Cases.{by-bool}
-use Rattle.layout.specs.Sizes.{Enlarged, LargestSizes}
-use Rattle.layout.proofs.Sums.{largest-more}
+use Rattle.regions.specs.Sizes.{Enlarged, LargestSizes}
+use Rattle.regions.proofs.Sums.{largest-more}
 
 -- One size more, in its region or in none.
 module _ {sizes : List ℕ} (long : length sizes ≡ mostRegions) {region : ℕ} (size : ℕ) where

@@ -1,8 +1,8 @@
 -- `layout::enlarge` takes the larger of two sizes, in a region that there is.
 use borrow.Author.Needs.{needs}
-use Rattle.layout.proofs.Sizes.{in-region, in-none}
-use Rattle.layout.proofs.enlarge.Statement.{statement}
-use Rattle.layout.proofs.enlarge.Tie as tie
+use Rattle.regions.proofs.Sizes.{in-region, in-none}
+use Rattle.regions.proofs.enlarge.Statement.{statement}
+use Rattle.regions.proofs.enlarge.Tie as tie
 
 mul-t6 : tie.Need-mul-t6
 mul-t6 c = search needs

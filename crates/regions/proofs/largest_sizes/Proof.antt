@@ -4,9 +4,9 @@ use native.Mathlib.Omega.{arith}
 use borrow.Author.Needs.{needs}
 use Rattle.lookup.proofs.Places.{facts}
 use Rattle.model.specs.Numbers.{problemOf}
-use Rattle.layout.proofs.Sizes.{Sizing, none-sized, one-sized, all-sized}
-use Rattle.layout.proofs.largest_sizes.Statement.{statement}
-use Rattle.layout.proofs.largest_sizes.Tie as tie
+use Rattle.regions.proofs.Sizes.{Sizing, none-sized, one-sized, all-sized}
+use Rattle.regions.proofs.largest_sizes.Statement.{statement}
+use Rattle.regions.proofs.largest_sizes.Tie as tie
 
 abbrev Inv-loop : tie.InvT-loop
 Inv-loop l layout sizes₀ count f₀ sizes f = Sizing (problemOf l) layout f sizes

@@ -25,10 +25,10 @@ use Rattle.model.proofs.Search.{none-below}
 use Rattle.numbers.specs.Numbered.{Numbered}
 use Rattle.file.specs.Steps.{judgeNumbers}
 use Rattle.file.proofs.Opened.{judges-problem, checked-problem}
 use Rattle.layout.specs.declared.LayoutAnswer.{LayoutAnswer}
 use Rattle.layout.specs.declared.LayoutAnswer.the-variants.{Fits, Refused}
 use Rattle.layout.specs.Answers.{layoutAnswer, layoutVerdict}
-use Rattle.layout.specs.Regions.{KnownRegions}
+use Rattle.regions.specs.Regions.{KnownRegions}
 
 module _ (p : Problem) (layout : List ℕ) where
   pub bad-problem : (x : Refusal) → judgeProblem p ≡ verdict.Refused x → judgeBound p layout ≡ verdict.Refused x

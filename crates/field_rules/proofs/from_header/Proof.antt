@@ -1,9 +1,9 @@
 -- `from_header` meets its definition, at a loop's last vertex and elsewhere.
 use native.Mathlib.Omega.{arith}
 use Rattle.fields.proofs.Laws.{last-place, after-header, any-header}
 use borrow.Author.Needs.{needs}
-use Rattle.fields.proofs.from_header.Statement.{statement}
-use Rattle.fields.proofs.from_header.Tie as tie
+use Rattle.field_rules.proofs.from_header.Statement.{statement}
+use Rattle.field_rules.proofs.from_header.Tie as tie
 
 sub-header : tie.Need-sub-header
 sub-header c = omega (arith, last-place _ _ (c .before .before .before .pre .above) (c .before .if1 .taken))

@@ -4,8 +4,8 @@ use native.Mathlib.Omega.{arith}
 use borrow.Author.Needs.{needs}
 use lib.ListN.{List·getD-eq-default}
 use Rattle.model.specs.Layouts.{regionOf}
-use Rattle.layout.proofs.region_of.Statement.{statement}
-use Rattle.layout.proofs.region_of.Tie as tie
+use Rattle.regions.proofs.region_of.Statement.{statement}
+use Rattle.regions.proofs.region_of.Tie as tie
 
 shared-slice-read-result : tie.Need-shared-slice-read-result
 shared-slice-read-result c = search needs

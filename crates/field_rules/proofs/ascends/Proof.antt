@@ -1,8 +1,8 @@
 -- `ascends` meets its definition: within an item there is no order to break.
 use Rattle.fields.proofs.Laws.{within-item}
 use borrow.Author.Needs.{needs}
-use Rattle.fields.proofs.ascends.Statement.{statement}
-use Rattle.fields.proofs.ascends.Tie as tie
+use Rattle.field_rules.proofs.ascends.Statement.{statement}
+use Rattle.field_rules.proofs.ascends.Tie as tie
 
 look-up-requires : tie.Need-look-up-requires
 look-up-requires c κs = search needs

@@ -1,9 +1,9 @@
 -- `below_count` meets its definition, with and without a count over the row.
 use native.Mathlib.Omega.{arith}
 use Rattle.fields.proofs.Laws.{count-fits, no-count, under-count}
 use borrow.Author.Needs.{needs}
-use Rattle.fields.proofs.below_count.Statement.{statement}
-use Rattle.fields.proofs.below_count.Tie as tie
+use Rattle.field_rules.proofs.below_count.Statement.{statement}
+use Rattle.field_rules.proofs.below_count.Tie as tie
 
 look-up-requires : tie.Need-look-up-requires
 look-up-requires c κs = search needs

@@ -7,10 +7,10 @@ use Rattle.model.specs.Limits.{mostRegions}
 use Rattle.model.specs.Numbers.{problemOf}
 use Rattle.model.specs.Costs.{total}
 use Rattle.model.specs.Layouts.{largestIn, needOf}
-use Rattle.layout.proofs.Sums.{Upto, turn, end, total-more}
-use Rattle.layout.proofs.Judged.{sum-high}
-use Rattle.layout.proofs.need.Statement.{statement}
-use Rattle.layout.proofs.need.Tie as tie
+use Rattle.regions.proofs.Sums.{Upto, turn, end, total-more}
+use Rattle.regions.proofs.Most.{sum-high}
+use Rattle.regions.proofs.need.Statement.{statement}
+use Rattle.regions.proofs.need.Tie as tie
 
 abbrev Inv-loop : tie.InvT-loop
 Inv-loop l layout sizes needed₀ region₀ needed region =
