@@ -10,22 +10,26 @@ use lib.Seq.{getD-set-same, getD-set-other}
 use Rattle.model.specs.declared.Field.{Field}
 use Rattle.model.specs.declared.Number.the-variants as number
 use Rattle.model.specs.Spelling.{readNumber}
-use Rattle.model.specs.Table.{kinds}
+use Rattle.model.specs.Table.{kinds, kind, firstKind}
 use Rattle.model.specs.File.{edgeSpan, ascends, itemStart, inRange, readFrom}
 use Rattle.spelling.proofs.Laws.{one-byte}
 use Rattle.fields.specs.Valid.{Valid, field}
 use Rattle.fields.proofs.Steps.{ranged-later}
 use Rattle.fields.proofs.OneField.{read-on}
-use Rattle.edge_runs.specs.Edges.{secondEdge, Opens, Readable, EdgesRead}
+use Rattle.edge_runs.specs.Edges.{secondEdge, Opens, Readable, PairsRead, EdgesRead}
 use Rattle.edge_runs.proofs.Edges.{Between, from-ranged, to-ranged, from-ascends, from-next, to-next, ordered, opened}
 use Rattle.model.specs.Places as places
 use Rattle.model.specs.Rows as rows
 
 -- Where an item starts, the start of the item before plays no part.
-start-free : (n : ℕ) (s : List ℕ) (at start start′ q left : ℕ) (l : List ℕ) → readFrom n s at start (field rows.from q left) l ≡ readFrom n s at start′ (field rows.from q left) l
-unfolding readFrom itemStart kinds
-start-free zero s at start start′ q left l = refl
-start-free (suc n) s at start start′ q left l = refl
+pub start-free : (n : ℕ) (s : List ℕ) (at start start′ : ℕ) (c : Field) (l : List ℕ) → kind (c .row) ≡ firstKind → readFrom n s at start c l ≡ readFrom n s at start′ c l
+unfolding readFrom itemStart
+start-free zero s at start start′ c l e = refl
+start-free (suc n) s at start start′ c l e = simp e
+
+from-starts : kind rows.from ≡ firstKind
+unfolding kinds
+from-starts = refl
 
 module _ (s l : List ℕ) (pos q left : ℕ) where
   abbrev from-byte : ℕ
@@ -92,12 +96,15 @@ pub record Running (s l : List ℕ) (at vertices first left : ℕ) (m : List ℕ
   pub here : vertices ≡ getD m places.vertexCount 0
   pub done : EdgesRead s at (field rows.from first left) l m k
 
-pub none-read : {s : List ℕ} {at : ℕ} {c : Field} {l : List ℕ} → Readable s at c l → EdgesRead s at c l l 0
-none-read r = record { few = omega arith; inside = omega (arith, r .inside); valid = simp unary-clauses (r .valid); long = r .long; same = λ n start. simp unary-clauses }
+pub none-read : {s : List ℕ} {at : ℕ} {c : Field} {l : List ℕ} → Readable s at c l → PairsRead s at c l l 0 at
+none-read r = record { few = omega arith; inside = r .inside; valid = simp unary-clauses (r .valid); long = r .long; same = λ n start. simp unary-clauses }
+
+pub no-edge-read : {s : List ℕ} {at : ℕ} {c : Field} {l : List ℕ} → Readable s at c l → EdgesRead s at c l l 0
+no-edge-read r = simp unary-clauses (none-read r)
 
 pub started : {s : List ℕ} {at : ℕ} {c : Field} {l : List ℕ} {vertices : ℕ} → Readable s at c l → Opens c vertices → vertices ≡ getD l places.vertexCount 0 →
     Running s l at vertices (c .place) (c .left) l 0
-started {s} {at} {c} {l} r o here = record { late = o .late; few = o .few; here = here; done = rw (opened o) at (none-read r) }
+started {s} {at} {c} {l} r o here = record { late = o .late; few = o .few; here = here; done = rw (opened o) at (no-edge-read r) }
 
 pub ended : {s l : List ℕ} {at vertices : ℕ} {c : Field} {m : List ℕ} {k : ℕ} → Opens c vertices → Running s l at vertices (c .place) (c .left) m k → EdgesRead s at c l m k
 ended o r = rw (opened o) (r .done)
@@ -121,6 +128,6 @@ module _ {s l : List ℕ} {at vertices first left : ℕ} {m : List ℕ} {k : ℕ
           valid = rw (j, h) (two-valid s m pos q (left - k) e (r .done .valid));
           long = simp length-set (r .done .long);
           same = λ n start. rw (more n, i, j, h)
-              (r .done .same (suc (suc n)) start ∙ two-read s m pos q (left - k) e n start ∙ start-free n s _ _ start _ _ _);
+              (r .done .same (suc (suc n)) start ∙ two-read s m pos q (left - k) e n start ∙ start-free n s _ _ start _ _ from-starts);
         };
       }

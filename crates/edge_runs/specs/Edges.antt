@@ -10,9 +10,9 @@ use Rattle.fields.specs.Valid.{Valid}
 use Rattle.model.specs.Places as places
 use Rattle.model.specs.Rows as rows
 
--- The field k edges further on in their list.
-abbrev pub pastEdges : Field → ℕ → Field
-pastEdges c k = record { row = c .row; place = c .place + places.edgeWidth * k; left = c .left - k }
+-- The field k items further on in its list, where an item has two numbers: functions and vertices have as many as edges.
+abbrev pub pastPairs : Field → ℕ → Field
+pastPairs c k = record { row = c .row; place = c .place + places.edgeWidth * k; left = c .left - k }
 
 -- Where the second edge starts.
 abbrev pub secondEdge : ℕ
@@ -36,16 +36,20 @@ pub record Readable (s : List ℕ) (at : ℕ) (c : Field) (l : List ℕ) : Type 
   pub valid : Valid c
   pub long : length l ≡ numberCount
 
--- The numbers l became m by a run of k edges, a byte a number, and what is left to read is the same.
-pub record EdgesRead (s : List ℕ) (at : ℕ) (c : Field) (l m : List ℕ) (k : ℕ) : Type 0 where
+-- The numbers l became m by a run of k items of two numbers, which ends at a position, and what is left to read is the same.
+pub record PairsRead (s : List ℕ) (at : ℕ) (c : Field) (l m : List ℕ) (k end : ℕ) : Type 0 where
   pub few : k ≤ c .left
-  pub inside : at + places.edgeWidth * k ≤ length s
-  pub valid : Valid (pastEdges c k)
+  pub inside : end ≤ length s
+  pub valid : Valid (pastPairs c k)
   pub long : length m ≡ numberCount
-  pub same : (n start : ℕ) → readFrom (n + places.edgeWidth * k) s at start c l ≡ readFrom n s (at + places.edgeWidth * k) start (pastEdges c k) m
+  pub same : (n start : ℕ) → readFrom (n + places.edgeWidth * k) s at start c l ≡ readFrom n s end start (pastPairs c k) m
+
+-- The same by a run of k edges, a byte a number.
+abbrev pub EdgesRead : List ℕ → ℕ → Field → List ℕ → List ℕ → ℕ → Type 0
+EdgesRead s at c l m k = PairsRead s at c l m k (at + places.edgeWidth * k)
 
 -- A run of k edges of the numbers l is judged good, a byte a number, and what is left to judge is the same.
 pub record EdgesChecked (c : Field) (l : List ℕ) (k : ℕ) : Type 0 where
   pub few : k ≤ c .left
-  pub valid : Valid (pastEdges c k)
-  pub same : (n at start : ℕ) → checkFrom (n + places.edgeWidth * k) at start c l ≡ checkFrom n (at + places.edgeWidth * k) start (pastEdges c k) l
+  pub valid : Valid (pastPairs c k)
+  pub same : (n at start : ℕ) → checkFrom (n + places.edgeWidth * k) at start c l ≡ checkFrom n (at + places.edgeWidth * k) start (pastPairs c k) l

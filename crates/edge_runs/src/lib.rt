@@ -12,17 +12,17 @@ ghost use mathlib.Core.Bool.{true};
 ghost use Rattle.model.specs.File.{numberCount};
 ghost use Rattle.model.specs.Places as spot;
 ghost use Rattle.fields.specs.Valid.{Valid};
-ghost use Rattle.edge_runs.specs.Edges.{pastEdges, Opens, secondEdge, Follows, Readable, EdgesRead, EdgesChecked};
+ghost use Rattle.edge_runs.specs.Edges.{pastPairs, Opens, secondEdge, Follows, Readable, EdgesRead, EdgesChecked};
 
 // The place where the second edge starts.
 const SECOND: usize = places::FROM + EDGE_WIDTH;
 
 const MOST_VERTICES: u64 = places::MOST_VERTICES as u64;
 
-// The field behind a run of edges.
-pub fn past_edges(c: Field, run: usize) -> Field
+// The field behind a run of edges, or of other items of two numbers.
+pub fn past_pairs(c: Field, run: usize) -> Field
     requires { ⌜ (run ≤ c .left) × (c .place + spot.edgeWidth * run < numberCount) ⌝ }
-    ensures { λ r. ⌜ r ≡ pastEdges c run ⌝ }
+    ensures { λ r. ⌜ r ≡ pastPairs c run ⌝ }
 {
     Field {
         row: c.row,

@@ -7,7 +7,7 @@ use Rattle.model.specs.File.{numberCount, firstField}
 use Rattle.model.proofs.Cases.{left-of}
 use Rattle.fields.specs.Valid.{Valid, edition}
 use Rattle.fields.proofs.Steps.{Later, placed}
-use Rattle.edge_runs.specs.Edges.{pastEdges}
+use Rattle.edge_runs.specs.Edges.{pastPairs}
 use Rattle.model.specs.Places as places
 use Rattle.model.specs.Rows as rows
 
@@ -28,8 +28,8 @@ module _ {c : Field} {count : ℕ} (here : Reached c count) (h : c .row < rows.e
     reached-next = record { valid = next .valid; behind = omega (arith, next .higher) }
 
   -- Behind a run of k edges.
-  module _ (k : ℕ) (valid : Valid (pastEdges c k)) where
-    pub reached-past : Reached (pastEdges c k) (count + places.edgeWidth * k)
+  module _ (k : ℕ) (valid : Valid (pastPairs c k)) where
+    pub reached-past : Reached (pastPairs c k) (count + places.edgeWidth * k)
     reached-past = record { valid = valid; behind = omega (arith, here .behind) }
 
     pub past-to-come : numberCount - (count + places.edgeWidth * k) + places.edgeWidth * k ≡ numberCount - count
@@ -39,7 +39,7 @@ pub nearer : {c d : Field} → Valid c → c .row < rows.end → Later c d → n
 nearer valid h next = omega (arith, placed valid h .place, next .higher)
 
 -- The field behind a run.
-module _ (c : Field) (k : ℕ) {d : Field} (is : d ≡ pastEdges c k) where
+module _ (c : Field) (k : ℕ) {d : Field} (is : d ≡ pastPairs c k) where
   pub past-row : c .row < rows.end → d .row < rows.end
   past-row h = rw is h
 

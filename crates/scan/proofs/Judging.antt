@@ -13,7 +13,7 @@ use Rattle.model.specs.File.{numberCount, firstField, nextField, inRange, ascen
 use Rattle.spelling.proofs.Laws.{size-five}
 use Rattle.fields.proofs.Steps.{placed, ranged-later}
 use Rattle.fields.proofs.OneField.{check-done, check-out, check-disorder, check-on}
-use Rattle.edge_runs.specs.Edges.{pastEdges, EdgesChecked}
+use Rattle.edge_runs.specs.Edges.{pastPairs, EdgesChecked}
 use Rattle.scan.proofs.Going.{Reached, reached-first, to-come, reached-next, reached-past, past-to-come}
 use Rattle.model.specs.Places as places
 use Rattle.model.specs.Rows as rows
@@ -42,7 +42,7 @@ module _ {numbers : List ℕ} {field : Field} {at start : ℕ} (r : Judging numb
     judge-room e = omega (arith, judge-near, size-five here)
 
     -- Behind a run of edges the judging goes on.
-    pub judge-past : {k : ℕ} → EdgesChecked field numbers k → {d : Field} → d ≡ pastEdges field k → Judging numbers d (at + places.edgeWidth * k) start
+    pub judge-past : {k : ℕ} → EdgesChecked field numbers k → {d : Field} → d ≡ pastPairs field k → Judging numbers d (at + places.edgeWidth * k) start
     judge-past {k} e q =
         rw q (record {
           count = r .count + places.edgeWidth * k;

@@ -20,7 +20,7 @@ use Rattle.model.proofs.Number.{the-type}
 use Rattle.spelling.proofs.Prefix.{number-ends}
 use Rattle.fields.proofs.Steps.{ranged-later}
 use Rattle.fields.proofs.OneField.{read-done, read-ended, read-misspelt, read-out, read-disorder, read-on}
-use Rattle.edge_runs.specs.Edges.{pastEdges, EdgesRead}
+use Rattle.edge_runs.specs.Edges.{pastPairs, PairsRead}
 use Rattle.scan.specs.Answers.{misread}
 use Rattle.scan.proofs.Going.{Reached, reached-first, to-come, reached-next, reached-past, past-to-come}
 use Rattle.model.specs.Places as places
@@ -48,8 +48,8 @@ module _ {bytes numbers₀ numbers : List ℕ} {field : Field} {at start : ℕ} 
   read-all h = sym (read-done bytes at start field numbers _ h) ∙ r .same
 
   module _ (h : field .row < rows.end) where
-    -- Behind a run of edges the reading goes on.
-    pub read-past : {m : List ℕ} {k : ℕ} → EdgesRead bytes at field numbers m k → {d : Field} → d ≡ pastEdges field k → Reading bytes numbers₀ m d (at + places.edgeWidth * k) start
+    -- Behind a run the reading goes on.
+    pub read-past : {m : List ℕ} {k end : ℕ} → PairsRead bytes at field numbers m k end → {d : Field} → d ≡ pastPairs field k → Reading bytes numbers₀ m d end start
     read-past {m} {k} e q =
         rw q (record {
           count = r .count + places.edgeWidth * k;

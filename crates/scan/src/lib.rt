@@ -43,9 +43,9 @@ pub fn read_fields(bytes: &[u8], numbers: &mut Numbers) -> FieldsAnswer
     let mut at: usize = 0;
     let mut start: usize = 0;
     while field.row < rows::END {
-        let run = edge_runs::read_edges(bytes, numbers, at, field);
-        field = edge_runs::past_edges(field, run);
-        at += places::EDGE_WIDTH * run;
+        let run = pair_runs::read_run(&table, bytes, numbers, at, field);
+        field = edge_runs::past_pairs(field, run.items);
+        at = run.at;
         let number = spelling::read_number(bytes, at);
         let Number::Value(value, next) = number else {
             return misread_at(number, bytes.len(), at);
@@ -75,7 +75,7 @@ pub fn check_fields(numbers: &Numbers) -> FieldsAnswer
     let mut start: usize = 0;
     while field.row < rows::END {
         let run = edge_runs::check_edges(numbers, field);
-        field = edge_runs::past_edges(field, run);
+        field = edge_runs::past_pairs(field, run);
         at += places::EDGE_WIDTH * run;
         let place = field.place;
         let value = numbers[place];

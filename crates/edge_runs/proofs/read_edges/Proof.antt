@@ -8,7 +8,7 @@ use borrow.Author.Tests.{not-false}
 use Rattle.model.specs.File.{edgeSpan}
 use Rattle.edge_runs.specs.Edges.{Opens}
 use Rattle.edge_runs.proofs.Edges.{between, edge-room}
-use Rattle.edge_runs.proofs.EdgesRead.{Running, none-read, started, ended, turn}
+use Rattle.edge_runs.proofs.EdgesRead.{Running, no-edge-read, started, ended, turn}
 use Rattle.edge_runs.proofs.read_edges.Statement.{statement}
 use Rattle.edge_runs.proofs.read_edges.Tie as tie
 use Rattle.model.specs.Places as places
@@ -48,7 +48,7 @@ opens-requires : tie.Need-opens-requires Inv-loop μ-loop
 opens-requires c κs = search needs
 
 returns : tie.Need-returns Inv-loop μ-loop
-returns c = none-read (entry (c .before) .pre)
+returns c = no-edge-read (entry (c .before) .pre)
 
 loop-holds : tie.Need-loop-holds Inv-loop μ-loop
 loop-holds c = started (entry (c .before) .pre) (opens c) refl

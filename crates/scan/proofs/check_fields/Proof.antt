@@ -30,10 +30,10 @@ tabled c = c .before .before
 abbrev entry : tie.At-loop Inv-loop μ-loop → tie.Start Inv-loop μ-loop
 entry c = tabled c .before
 
-abbrev turn : tie.After-past-edges Inv-loop μ-loop → tie.At-loop Inv-loop μ-loop
+abbrev turn : tie.After-past-pairs Inv-loop μ-loop → tie.At-loop Inv-loop μ-loop
 turn c = c .before .before .before .before
 
-abbrev past : tie.After-in-range Inv-loop μ-loop → tie.After-past-edges Inv-loop μ-loop
+abbrev past : tie.After-in-range Inv-loop μ-loop → tie.After-past-pairs Inv-loop μ-loop
 past c = c .before .before .before
 
 abbrev started : tie.After-ascends Inv-loop μ-loop → tie.After-item-start Inv-loop μ-loop
@@ -43,22 +43,22 @@ abbrev ranged : tie.After-item-start Inv-loop μ-loop → tie.Else2 Inv-loop μ-
 ranged c = c .before .before
 
 -- Behind a run of edges.
-module _ (c : tie.After-past-edges Inv-loop μ-loop) where
+module _ (c : tie.After-past-pairs Inv-loop μ-loop) where
   abbrev run : ℕ
   run = c .before .check-edges .result
 
-  going : c .past-edges .result .row < rows.end
-  going = past-row (turn c .loop .field) run (c .past-edges .ensures) (c .before .before .if1 .taken)
+  going : c .past-pairs .result .row < rows.end
+  going = past-row (turn c .loop .field) run (c .past-pairs .ensures) (c .before .before .if1 .taken)
 
-  judging : Judging (entry (turn c) .args .numbers .now) (c .past-edges .result) (turn c .loop .at + places.edgeWidth * run) (turn c .loop .start)
-  judging = judge-past (turn c .loop .inv) (c .before .before .if1 .taken) (c .before .check-edges .ensures) (c .past-edges .ensures)
+  judging : Judging (entry (turn c) .args .numbers .now) (c .past-pairs .result) (turn c .loop .at + places.edgeWidth * run) (turn c .loop .start)
+  judging = judge-past (turn c .loop .inv) (c .before .before .if1 .taken) (c .before .check-edges .ensures) (c .past-pairs .ensures)
 
-  here : Placed (c .past-edges .result)
+  here : Placed (c .past-pairs .result)
   here = placed (judging .reached .valid) going
 
 -- The number there is in range.
 in-range : (c : tie.Else2 Inv-loop μ-loop) →
-    inRange (entry (turn (past (c .before))) .args .numbers .now) (past (c .before) .past-edges .result) (getD (entry (turn (past (c .before))) .args .numbers .now) (past (c .before) .past-edges .result .place) 0) ≡ true
+    inRange (entry (turn (past (c .before))) .args .numbers .now) (past (c .before) .past-pairs .result) (getD (entry (turn (past (c .before))) .args .numbers .now) (past (c .before) .past-pairs .result .place) 0) ≡ true
 in-range c = sym (c .before .in-range .ensures) ∙ not-false _ (c .if2 .left)
 
 table-requires : tie.Need-table-requires Inv-loop μ-loop
@@ -73,8 +73,8 @@ loop-holds c = judge-first _ (c .first-field .ensures)
 check-edges-requires : tie.Need-check-edges-requires Inv-loop μ-loop
 check-edges-requires c κs = c .before .before .loop .inv .reached .valid
 
-past-edges-requires : tie.Need-past-edges-requires Inv-loop μ-loop
-past-edges-requires c κs = (c .check-edges .ensures .few, placed (c .check-edges .ensures .valid) (c .before .if1 .taken) .place)
+past-pairs-requires : tie.Need-past-pairs-requires Inv-loop μ-loop
+past-pairs-requires c κs = (c .check-edges .ensures .few, placed (c .check-edges .ensures .valid) (c .before .if1 .taken) .place)
 
 mul-at : tie.Need-mul-at Inv-loop μ-loop
 mul-at c = omega (arith, judge-near (judging c) (going c))
@@ -132,7 +132,7 @@ loop-less c =
     let good = ranged (started (c .before .before .before .before)) in
     let at = past (good .before) in
     let valid = judging at .reached .valid in
-    past-nearer (turn at .loop .field) (run at) (at .past-edges .ensures) valid (going at) (ranged-later valid (going at) _ _ (in-range good) (c .before .next-field .ensures))
+    past-nearer (turn at .loop .field) (run at) (at .past-pairs .ensures) valid (going at) (ranged-later valid (going at) _ _ (in-range good) (c .before .next-field .ensures))
 
 loop-again : tie.Need-loop-again Inv-loop μ-loop
 loop-again c =
@@ -155,7 +155,7 @@ check-fields-spec =
     first-field-requires
     loop-holds
     check-edges-requires
-    past-edges-requires
+    past-pairs-requires
     mul-at
     add-at
     mul-value

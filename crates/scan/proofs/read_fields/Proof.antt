@@ -10,6 +10,7 @@ use Rattle.model.specs.Spelling.{readNumber}
 use Rattle.model.specs.File.{numberCount, inRange}
 use Rattle.fields.specs.Valid.{Placed}
 use Rattle.fields.proofs.Steps.{placed, ranged-later}
+use Rattle.pair_runs.specs.declared.Run.{Run}
 use Rattle.scan.proofs.Going.{past-row, past-nearer}
 use Rattle.scan.proofs.Reading.{Reading, read-first, read-all, read-past, read-refused, read-too-far, read-unordered, read-next}
 use Rattle.scan.proofs.read_fields.Statement.{statement}
@@ -30,10 +31,13 @@ tabled c = c .before .before
 abbrev entry : tie.At-loop Inv-loop μ-loop → tie.Start Inv-loop μ-loop
 entry c = tabled c .before .before
 
-abbrev turn : tie.After-past-edges Inv-loop μ-loop → tie.At-loop Inv-loop μ-loop
-turn c = c .before .before .before .before .before
+abbrev tested : tie.After-past-pairs Inv-loop μ-loop → tie.Then1 Inv-loop μ-loop
+tested c = c .before .before .before .before
 
-abbrev past : tie.After-number Inv-loop μ-loop → tie.After-past-edges Inv-loop μ-loop
+abbrev turn : tie.After-past-pairs Inv-loop μ-loop → tie.At-loop Inv-loop μ-loop
+turn c = tested c .before .before
+
+abbrev past : tie.After-number Inv-loop μ-loop → tie.After-past-pairs Inv-loop μ-loop
 past c = c .before .before .before
 
 abbrev valued : tie.After-in-range Inv-loop μ-loop → tie.After-number Inv-loop μ-loop
@@ -45,28 +49,28 @@ started c = c .before .before .before
 abbrev ranged : tie.After-item-start Inv-loop μ-loop → tie.Else2 Inv-loop μ-loop
 ranged c = c .before .before
 
--- Behind a run of edges.
-module _ (c : tie.After-past-edges Inv-loop μ-loop) where
-  abbrev run : ℕ
-  run = c .before .read-edges .result
+-- Behind a run.
+module _ (c : tie.After-past-pairs Inv-loop μ-loop) where
+  abbrev run : Run
+  run = c .before .read-run .result
 
-  going : c .past-edges .result .row < rows.end
-  going = past-row (turn c .loop .field) run (c .past-edges .ensures) (c .before .before .before .if1 .taken)
+  going : c .past-pairs .result .row < rows.end
+  going = past-row (turn c .loop .field) (run .items) (c .past-pairs .ensures) (tested c .if1 .taken)
 
-  reading : Reading (entry (turn c) .args .bytes .now) (entry (turn c) .args .numbers .now) (c .before .read-edges .last .1 .0) (c .past-edges .result)
-      (turn c .loop .at + places.edgeWidth * run) (turn c .loop .start)
-  reading = read-past (turn c .loop .inv) (c .before .before .before .if1 .taken) (c .before .read-edges .ensures) (c .past-edges .ensures)
+  reading : Reading (entry (turn c) .args .bytes .now) (entry (turn c) .args .numbers .now) (c .before .read-run .last .1 .1 .0) (c .past-pairs .result)
+      (run .at) (turn c .loop .start)
+  reading = read-past (turn c .loop .inv) (tested c .if1 .taken) (c .before .read-run .ensures) (c .past-pairs .ensures)
 
-  here : Placed (c .past-edges .result)
+  here : Placed (c .past-pairs .result)
   here = placed (reading .reached .valid) going
 
 -- The number that was read.
 is-number : (c : tie.After-number Inv-loop μ-loop) →
-    readNumber (entry (turn (past c)) .args .bytes .now) (turn (past c) .loop .at + places.edgeWidth * run (past c)) ≡ number.Value (c .number .given .0 .0) (c .number .given .0 .1 .0)
+    readNumber (entry (turn (past c)) .args .bytes .now) (run (past c) .at) ≡ number.Value (c .number .given .0 .0) (c .number .given .0 .1 .0)
 is-number c = sym (c .before .before .read-number .ensures) ∙ c .number .given .1
 
 -- It is in range.
-in-range : (c : tie.Else2 Inv-loop μ-loop) → inRange (past (valued (c .before)) .before .read-edges .last .1 .0) (past (valued (c .before)) .past-edges .result) (valued (c .before) .number .given .0 .0) ≡ true
+in-range : (c : tie.Else2 Inv-loop μ-loop) → inRange (past (valued (c .before)) .before .read-run .last .1 .1 .0) (past (valued (c .before)) .past-pairs .result) (valued (c .before) .number .given .0 .0) ≡ true
 in-range c = sym (c .before .in-range .ensures) ∙ not-false _ (c .if2 .left)
 
 table-requires : tie.Need-table-requires Inv-loop μ-loop
@@ -78,19 +82,14 @@ first-field-requires c κs = search needs
 loop-holds : tie.Need-loop-holds Inv-loop μ-loop
 loop-holds c = read-first _ (c .before .before .before .pre) (c .first-field .ensures)
 
-read-edges-requires : tie.Need-read-edges-requires Inv-loop μ-loop
-read-edges-requires c κs =
-    let r = c .before .before .before .loop .inv in
-    record { inside = r .within; valid = r .reached .valid; long = r .long }
+read-run-requires : tie.Need-read-run-requires Inv-loop μ-loop
+read-run-requires c κs =
+    let at = c .before .before .before .before in
+    let r = at .loop .inv in
+    (tabled at .table .ensures, record { inside = r .within; valid = r .reached .valid; long = r .long })
 
-past-edges-requires : tie.Need-past-edges-requires Inv-loop μ-loop
-past-edges-requires c κs = (c .read-edges .ensures .few, placed (c .read-edges .ensures .valid) (c .before .before .if1 .taken) .place)
-
-mul-at : tie.Need-mul-at Inv-loop μ-loop
-mul-at c = omega (arith, c .before .read-edges .ensures .inside)
-
-add-at : tie.Need-add-at Inv-loop μ-loop
-add-at c = omega (arith, c .before .read-edges .ensures .inside)
+past-pairs-requires : tie.Need-past-pairs-requires Inv-loop μ-loop
+past-pairs-requires c κs = (c .read-run .ensures .few, placed (c .read-run .ensures .valid) (c .before .before .before .if1 .taken) .place)
 
 read-number-requires : tie.Need-read-number-requires Inv-loop μ-loop
 read-number-requires c κs = search needs
@@ -149,7 +148,7 @@ loop-less c =
     let good = ranged (started (c .before .before .before)) in
     let at = past (valued (good .before)) in
     let valid = reading at .reached .valid in
-    past-nearer (turn at .loop .field) (run at) (at .past-edges .ensures) valid (going at) (ranged-later valid (going at) _ _ (in-range good) (c .next-field .ensures))
+    past-nearer (turn at .loop .field) (run at .items) (at .past-pairs .ensures) valid (going at) (ranged-later valid (going at) _ _ (in-range good) (c .next-field .ensures))
 
 loop-again : tie.Need-loop-again Inv-loop μ-loop
 loop-again c =
@@ -171,10 +170,8 @@ read-fields-spec =
     table-requires
     first-field-requires
     loop-holds
-    read-edges-requires
-    past-edges-requires
-    mul-at
-    add-at
+    read-run-requires
+    past-pairs-requires
     read-number-requires
     enum-known-number
     misread-at-requires

@@ -1,0 +1,162 @@
+-- A function or a vertex that others of its list follow: the steps of its two numbers come to one turn of a run.
+use Prim.Native.Nat.{ℕ, suc, _+_, _*_, _-_, _≤_, _<_}
+use mathlib.Core.Path.{_≡_, refl, sym, ap, _∙_}
+use mathlib.Core.List.{List}
+use mathlib.Core.Bool.{Bool, true}
+use native.Mathlib.Omega.{arith}
+use lib.ListN.{length, set, length-set}
+use lib.Dec.{eqb}
+use borrow.Author.Tests.{ne-eqb}
+use Rattle.model.specs.declared.Field.{Field}
+use Rattle.model.specs.declared.Number.the-variants as number
+use Rattle.model.specs.Spelling.{readNumber}
+use Rattle.model.specs.Table.{limits, bases, kinds, jumps, counts, kind, firstKind}
+use Rattle.model.specs.File.{numberCount, nextField, afterItem, belowCount, fromHeader, inRange, ascends, itemStart, readFrom}
+use Rattle.model.proofs.Cases.{by-cond}
+use Rattle.spelling.proofs.Prefix.{number-ends}
+use Rattle.fields.specs.Valid.{Valid, Placed, field}
+use Rattle.fields.proofs.Steps.{placed, ranged-later}
+use Rattle.fields.proofs.OneField.{read-on}
+use Rattle.edge_runs.specs.Edges.{pastPairs, PairsRead}
+use Rattle.edge_runs.proofs.EdgesRead.{start-free}
+use Rattle.pair_runs.specs.Pairs.{Pair, functions, vertices, AtPair, PairTaken}
+use Rattle.model.specs.Places as places
+use Rattle.model.specs.Rows as rows
+
+-- What the steps of the two numbers find, for either list.
+pub going : {row : ℕ} → Pair row → row + 1 < rows.end
+going functions = omega arith
+going vertices = omega arith
+
+module _ (l : List ℕ) (q left v : ℕ) where
+  first-ascends : {row : ℕ} → Pair row → ascends l (field row q left) ≡ true
+  unfolding ascends bases
+  first-ascends functions = by-cond (λ (b : Bool). b ≡ true) (eqb q places.size) (λ e. refl) (λ e. refl)
+  first-ascends vertices = by-cond (λ (b : Bool). b ≡ true) (eqb q places.function) (λ e. refl) (λ e. refl)
+
+  second-ascends : {row : ℕ} → Pair row → ascends l (field (row + 1) q left) ≡ true
+  unfolding ascends bases
+  second-ascends functions = by-cond (λ (b : Bool). b ≡ true) (eqb q places.load) (λ e. refl) (λ e. refl)
+  second-ascends vertices = by-cond (λ (b : Bool). b ≡ true) (eqb q places.cost) (λ e. refl) (λ e. refl)
+
+  first-next : {row : ℕ} → Pair row → nextField (field row q left) v ≡ field (row + 1) (q + 1) left
+  unfolding nextField kinds
+  first-next functions = refl
+  first-next vertices = refl
+
+  second-next : {row : ℕ} → Pair row → 0 < left → nextField (field (row + 1) q left) v ≡ field row (q + 1) (left - 1)
+  unfolding nextField afterItem kinds jumps
+  second-next functions h = simp (ne-eqb left 0 (λ e. omega arith))
+  second-next vertices h = simp (ne-eqb left 0 (λ e. omega arith))
+
+  -- The second number is held to its row alone, whatever the numbers before it.
+  second-free : (m : List ℕ) {row : ℕ} → Pair row → inRange l (field (row + 1) q left) v ≡ inRange m (field (row + 1) q left) v
+  unfolding inRange belowCount fromHeader limits counts
+  second-free m functions = refl
+  second-free m vertices = refl
+
+-- The first number starts the item, and the second does not.
+first-kind : {row : ℕ} → Pair row → kind row ≡ firstKind
+unfolding kinds
+first-kind functions = refl
+first-kind vertices = refl
+
+starts : {row : ℕ} → Pair row → (at start q left : ℕ) → itemStart (field row q left) at start ≡ at
+unfolding itemStart
+starts p at start q left = simp (first-kind p)
+
+goes-on : {row : ℕ} → Pair row → (at start q left : ℕ) → itemStart (field (row + 1) q left) at start ≡ start
+unfolding itemStart kinds
+goes-on functions at start q left = refl
+goes-on vertices at start q left = refl
+
+-- The field of the second number.
+abbrev pub behind : Field → Field
+behind c = field (c .row + 1) (c .place + 1) (c .left)
+
+module _ {s : List ℕ} {at : ℕ} {c : Field} {l : List ℕ} (p : AtPair s at c l) where
+  pub here-placed : Placed c
+  here-placed = placed (p .readable .valid) (omega (arith, going (p .pair)))
+
+  module _ (a : ℕ) (good : inRange l c a ≡ true) where
+    behind-valid : Valid (behind c)
+    behind-valid = ranged-later (p .readable .valid) (omega (arith, going (p .pair))) l a good (sym (first-next l (c .place) (c .left) a (p .pair))) .valid
+
+    pub behind-placed : Placed (behind c)
+    behind-placed = placed behind-valid (going (p .pair))
+
+-- What the tests of an item found: its two numbers, both in range.
+pub record Found (s : List ℕ) (at : ℕ) (c : Field) (l : List ℕ) : Type 0 where
+  pub a : ℕ
+  pub middle : ℕ
+  pub first-read : readNumber s at ≡ number.Value a middle
+  pub first-good : inRange l c a ≡ true
+  pub b : ℕ
+  pub next : ℕ
+  pub second-read : readNumber s middle ≡ number.Value b next
+  pub second-good : inRange l (behind c) b ≡ true
+
+module _ {s : List ℕ} {at : ℕ} {c : Field} {l : List ℕ} (p : AtPair s at c l) (f : Found s at c l) where
+  abbrev half : List ℕ
+  half = set l (c .place) (f .a)
+
+  abbrev pub whole : List ℕ
+  whole = set half (c .place + 1) (f .b)
+
+  abbrev after : Field
+  after = field (c .row) (c .place + 1 + 1) (c .left - 1)
+
+  second-ranged : inRange half (behind c) (f .b) ≡ true
+  second-ranged = sym (second-free l (c .place + 1) (c .left) (f .b) half (p .pair)) ∙ f .second-good
+
+  two-read : (n start : ℕ) → readFrom (suc (suc n)) s at start c l ≡ readFrom n s (f .next) at after whole
+  two-read n start =
+      read-on s at start c l (suc n) (omega (arith, going (p .pair))) (f .a) (f .middle) (f .first-read) (f .first-good) (first-ascends half (c .place) (c .left) 0 (p .pair))
+      ∙ ap (λ (d : Field). readFrom (suc n) s (f .middle) (itemStart c at start) d half) (first-next l (c .place) (c .left) (f .a) (p .pair))
+      ∙ ap (λ (k : ℕ). readFrom (suc n) s (f .middle) k (behind c) half) (starts (p .pair) at start (c .place) (c .left))
+      ∙ read-on s (f .middle) at (behind c) half n (going (p .pair)) (f .b) (f .next) (f .second-read) second-ranged (second-ascends whole (c .place + 1) (c .left) 0 (p .pair))
+      ∙ ap (λ (k : ℕ). readFrom n s (f .next) k (nextField (behind c) (f .b)) whole) (goes-on (p .pair) (f .middle) at (c .place + 1) (c .left))
+      ∙ ap (λ (d : Field). readFrom n s (f .next) at d whole) (second-next l (c .place + 1) (c .left) (f .b) (p .pair) (p .more))
+
+  two-valid : Valid after
+  two-valid =
+      ranged-later (behind-valid p (f .a) (f .first-good)) (going (p .pair)) half (f .b) second-ranged
+      (sym (second-next l (c .place + 1) (c .left) (f .b) (p .pair) (p .more))) .valid
+
+  one-on : pastPairs c 1 ≡ after
+  one-on = let e : c .place + places.edgeWidth * 1 ≡ c .place + 1 + 1 = omega arith in ap (λ (q : ℕ). field (c .row) q (c .left - 1)) e
+
+  pub pair-read : PairsRead s at c l whole 1 (f .next)
+  pair-read =
+      record {
+        few = p .more;
+        inside = number-ends _ _ _ _ (f .second-read) .2;
+        valid = rw one-on two-valid;
+        long = simp length-set (p .readable .long);
+        same = λ n start.
+            let two : n + places.edgeWidth * 1 ≡ suc (suc n) = omega arith in
+            rw (two, one-on) (two-read n start ∙ start-free n s (f .next) at start after whole (first-kind (p .pair)));
+      }
+
+  pub pair-taken : PairTaken s at c l whole (f .next)
+  pair-taken =
+      record { left = λ e. let z : ⊥ = omega (arith, number-ends _ _ _ _ (f .second-read) .0, e) in elim z [ ]; taken = λ h. pair-read }
+
+pub none-taken : {s : List ℕ} {at : ℕ} {c : Field} {l : List ℕ} → PairTaken s at c l l 0
+none-taken = record { left = λ e. refl; taken = λ h. let z : ⊥ = omega (arith, h) in elim z [ ] }
+
+-- A run and one item more.
+pub one-more : {s : List ℕ} {at : ℕ} {c : Field} {l m w : List ℕ} {k pos end : ℕ} → PairsRead s at c l m k pos → PairsRead s pos (pastPairs c k) m w 1 end →
+    PairsRead s at c l w (k + 1) end
+one-more {s} {at} {c} {l} {m} {w} {k} {pos} {end} run item =
+    let place : c .place + places.edgeWidth * (k + 1) ≡ c .place + places.edgeWidth * k + places.edgeWidth * 1 = omega arith in
+    let left : c .left - (k + 1) ≡ c .left - k - 1 = omega arith in
+    record {
+      few = omega (arith, item .few, run .few);
+      inside = item .inside;
+      valid = rw (place, left) (item .valid);
+      long = item .long;
+      same = λ n start.
+          let count : n + places.edgeWidth * (k + 1) ≡ n + places.edgeWidth * 1 + places.edgeWidth * k = omega arith in
+          rw (count, place, left) (run .same (n + places.edgeWidth * 1) start ∙ item .same n start);
+    }
