@@ -1,16 +1,18 @@
-// M2 to M9 of document 01, and a problem where splitting a region raises the bound: what Bound and Run give.
+// M1 to M9 of document 01, and a problem where splitting a region raises the bound: what Interference, Bound and Run give. M1 is part of Table I of
+// document 003, which is printed whole.
+mod sets;
 mod show;
 
 use model::Problem;
 use model::limits;
 
 fn bound(name: &[u8], problem: Problem, layout: &[u8]) {
-    show::text(name);
+    prints::text(name);
     show::bounded(bound::bound(problem, layout));
 }
 
 fn run(name: &[u8], problem: Problem, layout: &[u8], walk: &[u32]) {
-    show::text(name);
+    prints::text(name);
     let mut held = [0u8; limits::MOST_REGIONS];
     show::ran(run::run(problem, layout, walk, &mut held));
 }
@@ -89,6 +91,7 @@ fn splitting() {
 }
 
 fn main() {
+    sets::table_one();
     marks_of_p();
     mark_of_q();
     marks_of_r();

@@ -1,21 +1,16 @@
 // Bound's and Run's answers in print.
-use libc::STDOUT_FILENO;
 use model::BoundAnswer;
 use model::Refusal;
 use model::RunAnswer;
-
-pub fn text(words: &[u8]) {
-    io::write_all(STDOUT_FILENO, words);
-}
-
-fn number(name: &[u8], n: u64) {
-    text(name);
-    io::print_decimal(STDOUT_FILENO, n);
-}
+use prints::number;
+use prints::text;
 
 fn refusal(refusal: Refusal) {
-    number(b"refused ", model::number_of(refusal) as u64);
-    number(b" at ", model::place_of(refusal));
+    prints::placed(
+        b"refused ",
+        model::number_of(refusal),
+        model::place_of(refusal),
+    );
 }
 
 pub fn bounded(answer: BoundAnswer) {

@@ -1,29 +1,18 @@
 // One line of output for each trial.
-use libc::STDOUT_FILENO;
-
-fn text(words: &[u8]) {
-    io::write_all(STDOUT_FILENO, words);
-}
-
-fn number(n: u64) {
-    io::print_decimal(STDOUT_FILENO, n);
-}
+use prints::number;
+use prints::text;
 
 // As `M10 into 9 bytes: refusal 10 at 10`.
 pub fn refusal(name: &[u8], status: u32, place: u64) {
     text(name);
-    text(b": refusal ");
-    number(status as u64);
-    text(b" at ");
-    number(place);
+    prints::placed(b": refusal ", status, place);
     text(b"\n");
 }
 
 // As `fields of M10: 10 bytes`.
 pub fn line(name: &[u8], count: u64, what: &[u8]) {
     text(name);
-    text(b": ");
-    number(count);
+    number(b": ", count);
     text(what);
     text(b"\n");
 }
@@ -49,13 +38,9 @@ pub fn read_back(name: &[u8], count: u64, same: bool) {
 // As `M10: functions 1, vertices 1, edges 0, loops 0`.
 pub fn counts(name: &[u8], answer: [u64; 4]) {
     text(name);
-    text(b": functions ");
-    number(answer[0]);
-    text(b", vertices ");
-    number(answer[1]);
-    text(b", edges ");
-    number(answer[2]);
-    text(b", loops ");
-    number(answer[3]);
+    number(b": functions ", answer[0]);
+    number(b", vertices ", answer[1]);
+    number(b", edges ", answer[2]);
+    number(b", loops ", answer[3]);
     text(b"\n");
 }

@@ -3,8 +3,8 @@ use Prim.Native.Nat.{_≤_, _-_}
 use native.Mathlib.Omega.{arith}
 use borrow.Author.Needs.{needs}
 use Rattle.interference.proofs.Copies.{row-fits}
-use Rattle.table_one.proofs.rows.Statement.{statement}
-use Rattle.table_one.proofs.rows.Tie as tie
+use Rattle.marks.proofs.sets.rows.Statement.{statement}
+use Rattle.marks.proofs.sets.rows.Tie as tie
 
 abbrev Inv-loop : tie.InvT-loop
 Inv-loop count functions words vertices v₀ v = v ≤ count

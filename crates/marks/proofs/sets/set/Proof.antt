@@ -1,9 +1,9 @@
--- `show::set` asks of each function that there may be.
+-- `set` asks of each function that there may be.
 use Prim.Native.Nat.{_≤_, _-_}
 use borrow.Author.Needs.{needs}
 use Rattle.model.specs.Places.{mostFunctions}
-use Rattle.table_one.proofs.show.set.Statement.{statement}
-use Rattle.table_one.proofs.show.set.Tie as tie
+use Rattle.marks.proofs.sets.set.Statement.{statement}
+use Rattle.marks.proofs.sets.set.Tie as tie
 
 abbrev Inv-loop : tie.InvT-loop
 Inv-loop word some₀ g₀ t5 some g = g ≤ mostFunctions

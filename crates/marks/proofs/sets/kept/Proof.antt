@@ -2,14 +2,14 @@
 use Prim.Native.Nat.{_≤_, _-_}
 use lib.ListN.{length}
 use borrow.Author.Needs.{needs}
-use Rattle.table_one.proofs.kept.Statement.{statement}
-use Rattle.table_one.proofs.kept.Tie as tie
+use Rattle.marks.proofs.sets.kept.Statement.{statement}
+use Rattle.marks.proofs.sets.kept.Tie as tie
 
 abbrev Inv-loop : tie.InvT-loop
-Inv-loop words from i₀ i = from ≤ i
+Inv-loop words from i₀ t4 t5 i = from ≤ i
 
 abbrev μ-loop : tie.MeasureT-loop
-μ-loop words from i₀ i = length words - i
+μ-loop words from i₀ t4 t5 i = length words - i
 
 loop-holds : tie.Need-loop-holds Inv-loop μ-loop
 loop-holds c = search needs
@@ -19,6 +19,12 @@ mul-if1 c = search needs
 
 shared-slice-read-if1 : tie.Need-shared-slice-read-if1 Inv-loop μ-loop
 shared-slice-read-if1 c = search needs
+
+slice-aggregate-text : tie.Need-slice-aggregate-text Inv-loop μ-loop
+slice-aggregate-text c = search needs
+
+text-requires : tie.Need-text-requires Inv-loop μ-loop
+text-requires c κs = search needs
 
 returns : tie.Need-returns Inv-loop μ-loop
 returns c = search needs
@@ -32,6 +38,12 @@ loop-less c = search needs
 loop-again : tie.Need-loop-again Inv-loop μ-loop
 loop-again c = search needs
 
+slice-aggregate-text-2 : tie.Need-slice-aggregate-text-2 Inv-loop μ-loop
+slice-aggregate-text-2 c = search needs
+
+text-requires-2 : tie.Need-text-requires-2 Inv-loop μ-loop
+text-requires-2 c κs = search needs
+
 returns-2 : tie.Need-returns-2 Inv-loop μ-loop
 returns-2 c = search needs
 
@@ -44,8 +56,12 @@ kept-spec =
     loop-holds
     mul-if1
     shared-slice-read-if1
+    slice-aggregate-text
+    text-requires
     returns
     add-i
     loop-less
     loop-again
+    slice-aggregate-text-2
+    text-requires-2
     returns-2)
