@@ -155,25 +155,20 @@ fn slips_are_those_of_the_independent_implementation() {
     }
 }
 
-/// The texts of the calls `mark(b"title", b"problem", b"layout")` in a source, three a call.
-fn stored_cases(source: &str) -> Vec<[String; 3]> {
-    let calls = source.split("mark(").skip(1).filter_map(|call| {
-        let mut texts = call.split_once(");")?.0.split("b\"").skip(1).map(|text| text.split('"').next().unwrap_or("").replace("\\n", "\n"));
-        Some([texts.next()?, texts.next()?, texts.next()?])
-    });
-    calls.collect()
-}
-
 /// The program of the gate that marks stored files, held to the independent implementation: what it has to print, and so what it is compared with.
 #[test]
 fn stored_slips_are_those_of_the_independent_implementation() {
     let crate_folder = PathBuf::from(env!("CARGO_MANIFEST_DIR")).join("../crates/sheet_cases");
-    let source = fs::read_to_string(crate_folder.join("src/main.rt")).expect("the program");
+    let arguments = fs::read_to_string(crate_folder.join("args")).expect("the program's arguments");
     let data = |name: &str| fs::read(crate_folder.join("data").join(name));
     let mut printed = String::new();
-    let cases = stored_cases(&source);
-    for [title, problem, layout] in &cases {
-        printed += title;
+    let lines: Vec<&str> = arguments.lines().collect();
+    let cases = lines.chunks_exact(3);
+    assert!(cases.remainder().is_empty(), "three arguments a case: {:?} are left over", cases.remainder());
+    assert!(cases.len() >= 26, "only {} cases are listed", cases.len());
+    for case in cases {
+        let &[title, problem, layout] = case else { unreachable!("chunks of three") };
+        printed += &format!("{title}:\n");
         let Ok(file) = data(problem) else { continue };
         match data(layout) {
             Ok(layout) => printed += &slip(&file, &layout),
@@ -182,6 +177,5 @@ fn stored_slips_are_those_of_the_independent_implementation() {
             Err(_) => {}
         }
     }
-    assert!(cases.len() >= 26, "only {} cases were found", cases.len());
     assert_eq!(printed, fs::read_to_string(crate_folder.join("stdout")).expect("the stored output"));
 }
