@@ -1,8 +1,10 @@
-// Numbers in decimal, without leading zeros, written into a lent buffer.
+// Numbers in decimal, without leading zeros, and texts, written into a lent buffer.
 ghost use mathlib.Core.Path.{_≡_};
+ghost use mathlib.Core.List.{_++_};
 ghost use Prim.Native.Nat.{_+_, _≤_};
 ghost use lib.ListN.{length};
 ghost use Rattle.model.specs.Decimals.{decimal};
+ghost use Rattle.decimals.specs.Digits.{mostDigits};
 ghost use Rattle.decimals.specs.Written.{Written};
 
 // How many digits a number of 64 bits has at most.
@@ -48,4 +50,14 @@ pub fn write_text(buf: &mut [u8], at: usize, text: &[u8]) -> usize
         i += 1;
     }
     at + i
+}
+
+// Writes a label at a position and a number behind it, and answers the position after them.
+pub fn write_labelled(buf: &mut [u8], at: usize, label: &[u8], n: u64) -> usize
+    requires { ⌜ at + length (now label) + mostDigits ≤ length (now buf) ⌝ }
+    ensures { λ r. ⌜ Written (now (buf .entry)) at (now (label .entry) ++ decimal n) (now (buf .exit)) r ⌝ }
+    ensures { λ r. ⌜ r ≤ at + length (now (label .entry)) + mostDigits ⌝ }
+{
+    let behind = write_text(buf, at, label);
+    write_decimal(buf, behind, n)
 }

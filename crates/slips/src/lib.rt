@@ -19,23 +19,13 @@ pub const ROOM: usize = 4 * (LABEL_ROOM + decimals::MOST_DIGITS + 1);
 // What a caller lends for a slip.
 pub type Slip = [u8; ROOM];
 
-// A label and a number, at a position. Answers the position after them.
-fn write_number(buf: &mut [u8], at: usize, label: &[u8], n: u64) -> usize
-    requires { ⌜ at + length (now label) + mostDigits ≤ length (now buf) ⌝ }
-    ensures { λ r. ⌜ Written (now (buf .entry)) at (now (label .entry) ++ decimal n) (now (buf .exit)) r ⌝ }
-    ensures { λ r. ⌜ r ≤ at + length (now (label .entry)) + mostDigits ⌝ }
-{
-    let behind = decimals::write_text(buf, at, label);
-    decimals::write_decimal(buf, behind, n)
-}
-
-// The same, and what ends the line.
+// A label, a number and what ends the line, at a position. Answers the position after them.
 fn write_line(buf: &mut [u8], at: usize, label: &[u8], n: u64, end: &[u8]) -> usize
     requires { ⌜ at + length (now label) + mostDigits + length (now end) ≤ length (now buf) ⌝ }
     ensures { λ r. ⌜ Written (now (buf .entry)) at (now (label .entry) ++ decimal n ++ now (end .entry)) (now (buf .exit)) r ⌝ }
     ensures { λ r. ⌜ r ≤ at + length (now (label .entry)) + mostDigits + length (now (end .entry)) ⌝ }
 {
-    let behind = write_number(buf, at, label, n);
+    let behind = decimals::write_labelled(buf, at, label, n);
     decimals::write_text(buf, behind, end)
 }
 
@@ -45,7 +35,7 @@ pub fn refused(refusal: Refusal, slip: &mut Slip) -> usize
 {
     let number = model::number_of(refusal) as u64;
     let place = model::place_of(refusal);
-    let behind = write_number(slip, 0, b"refused ", number);
+    let behind = decimals::write_labelled(slip, 0, b"refused ", number);
     write_line(slip, behind, b" at ", place, b"\n")
 }
 

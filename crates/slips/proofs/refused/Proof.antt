@@ -9,10 +9,10 @@ use Rattle.slips.proofs.refused.Statement.{statement}
 use Rattle.slips.proofs.refused.Tie as tie
 
 -- The number and the place are told, and the number is written.
-abbrev told : tie.After-write-number → tie.After-place-of
+abbrev told : tie.After-write-labelled → tie.After-place-of
 told c = c .before .before .before
 
-abbrev numbered : tie.After-write-line-arg3 → tie.After-write-number
+abbrev numbered : tie.After-write-line-arg3 → tie.After-write-labelled
 numbered c = c .before .before .before
 
 number-of-requires : tie.Need-number-of-requires
@@ -24,11 +24,11 @@ cast-number c = search needs
 place-of-requires : tie.Need-place-of-requires
 place-of-requires c κs = search needs
 
-slice-aggregate-write-number : tie.Need-slice-aggregate-write-number
-slice-aggregate-write-number c = search needs
+slice-aggregate-write-labelled : tie.Need-slice-aggregate-write-labelled
+slice-aggregate-write-labelled c = search needs
 
-write-number-requires : tie.Need-write-number-requires
-write-number-requires c κs = search needs
+write-labelled-requires : tie.Need-write-labelled-requires
+write-labelled-requires c κs = search needs
 
 slice-aggregate-write-line : tie.Need-slice-aggregate-write-line
 slice-aggregate-write-line c = search needs
@@ -44,7 +44,7 @@ unfolding line text
 returns c =
     let n = numbered (c .before) in
     let p = told n in
-    refusal-written _ _ _ (p .before .number-of .ensures) (p .place-of .ensures) (n .write-number .ensures .0) (c .write-line .ensures .0)
+    refusal-written _ _ _ (p .before .number-of .ensures) (p .place-of .ensures) (n .write-labelled .ensures .0) (c .write-line .ensures .0)
 
 pub refused-spec : {M : Type 1} → statement M
 refused-spec =
@@ -53,8 +53,8 @@ refused-spec =
     number-of-requires
     cast-number
     place-of-requires
-    slice-aggregate-write-number
-    write-number-requires
+    slice-aggregate-write-labelled
+    write-labelled-requires
     slice-aggregate-write-line
     slice-aggregate-write-line-2
     write-line-requires

@@ -1,10 +1,10 @@
--- `write_number` writes the label and behind it the digits.
+-- `write_labelled` writes the label and behind it the digits.
 use native.Mathlib.Omega.{arith}
 use borrow.Author.Needs.{needs}
 use Rattle.decimals.proofs.Digits.{word-digits}
 use Rattle.decimals.proofs.Storing.{written-both, written-size}
-use Rattle.slips.proofs.write_number.Statement.{statement}
-use Rattle.slips.proofs.write_number.Tie as tie
+use Rattle.decimals.proofs.write_labelled.Statement.{statement}
+use Rattle.decimals.proofs.write_labelled.Tie as tie
 
 abbrev start : tie.After-write-text → tie.Start
 start c = c .before .before .before .before
@@ -32,6 +32,6 @@ returns c =
     let w = l .write-text .ensures in
     (written-both w (d .write-decimal .ensures), omega (arith, w .behind, d .write-decimal .ensures .behind, word-digits _ (start l .fits .n .fits)))
 
-pub write-number-spec : {M : Type 1} → statement M
-write-number-spec =
+pub write-labelled-spec : {M : Type 1} → statement M
+write-labelled-spec =
     tie.close (tie.spec write-text-requires write-decimal-requires same-length returns)
