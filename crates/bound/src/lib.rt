@@ -55,7 +55,7 @@ pub fn bound(problem: Problem, layout: &[u8]) -> BoundAnswer
     ensures { λ r. ⌜ IsBounded problem (now (layout .entry)) (boundOutcome r) ⌝ }
 {
     let numbers = numbers::numbers_of(problem);
-    let verdict = file::judge(&numbers);
+    let verdict = checks::judge(&numbers);
     let Verdict::Accepted = verdict else {
         return BoundAnswer::Refused(model::refusal_in(verdict));
     };

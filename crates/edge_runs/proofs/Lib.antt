@@ -1,3 +1,4 @@
 pub mod Edges
 pub mod EdgesRead
 pub mod EdgesChecked
+pub mod Going

@@ -16,7 +16,7 @@ ghost use lib.ListN.{getD};
 ghost use Rattle.fields.specs.Valid.{Placed};
 ghost use Rattle.fields.specs.Rows.{columns, entry, entries};
 ghost use Rattle.model.specs.Rows;
-ghost use Rattle.model.specs.File.{nextField, afterCount, afterItem, itemStart};
+ghost use Rattle.model.specs.File.{firstField, nextField, afterCount, afterItem, itemStart};
 
 // The columns of the field table. First the least and the greatest value of a row.
 pub const LEAST: usize = 0;
@@ -95,6 +95,17 @@ pub fn look_up(table: &Table, row: usize, column: usize) -> usize
     ensures { λ r. ⌜ r ≡ getD (entry row) column 0 ⌝ }
 {
     table[row][column]
+}
+
+// The file's first field.
+pub fn first_field() -> Field
+    ensures { λ r. ⌜ r ≡ firstField ⌝ }
+{
+    Field {
+        row: rows::EDITION,
+        place: places::EDITION,
+        left: 0,
+    }
 }
 
 // The field after a list's count: its first item's first number, or where an empty list leads.

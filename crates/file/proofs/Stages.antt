@@ -18,14 +18,15 @@ use Rattle.model.specs.declared.WriteAnswer.the-variants as write
 use Rattle.model.specs.Numbers.{problemOf}
 use Rattle.model.specs.File.{Scan, scanned, readFields, checkFields, fileBytes}
 use Rattle.model.specs.Graph.{judgeGraph}
-use Rattle.model.specs.Operations.{readVerdict, readRest, readFile, afterGraph, afterFields, writeChecked, writeProblem, afterWrite, writtenBuffer}
+use Rattle.model.specs.Operations.{readVerdict, readRest, readFile, writeChecked, writeProblem, afterWrite, writtenBuffer}
 use Rattle.model.specs.Verdicts.{asVerdict}
 use Rattle.model.proofs.Answers.{refused-not-accepted}
 use Rattle.numbers.specs.Numbered.{Numbered}
-use Rattle.scan.specs.Answers.{Fits}
+use Rattle.writing.specs.Fits.{Fits}
 use Rattle.file.proofs.NumbersRead.{size-read, checked-read}
-use Rattle.file.proofs.Opened.{good, checks-problem, refused-as}
-use Rattle.file.specs.Steps.{NumbersRead, checkNumbers}
+use Rattle.checks.proofs.Opened.{good, checks-problem, refused-as}
+use Rattle.checks.specs.Steps.{checkNumbers}
+use Rattle.file.specs.Steps.{NumbersRead}
 
 -- Reading, where the fields left the answer f and the numbers l.
 module _ (s : List ℕ) (f : FieldsAnswer) (l : List ℕ) (is : scanned f l ≡ readFields s) where
@@ -57,18 +58,6 @@ module _ (s l : List ℕ) (v : Verdict) (r : NumbersRead s l v) where
 
   pub whole-problem : v ≡ verdict.Accepted → (p : Problem) → p ≡ problemOf l → read.Accepted p ≡ readFile s
   whole-problem e p z = ap read.Accepted z ∙ ap (λ (x : Verdict). readVerdict x (problemOf l)) (sym e) ∙ r .answer
-
--- A problem's checks, where the fields gave the answer f.
-module _ (l : List ℕ) (f : FieldsAnswer) (is : f ≡ checkFields l) where
-  checks : (g : FieldsAnswer) → f ≡ g → afterFields g (problemOf l) ≡ checkNumbers l
-  unfolding checkNumbers
-  checks g e = ap (λ (x : FieldsAnswer). afterFields x (problemOf l)) (sym e ∙ is)
-
-  pub bad-fields : (r : Refusal) → f ≡ fields.Refused r → f ≡ checkNumbers l
-  bad-fields r e = e ∙ checks _ e
-
-  pub after-graph : (need : ℕ) → f ≡ fields.Done need → (v : Verdict) → v ≡ judgeGraph (problemOf l) → (w : Verdict) → v ≡ w → afterGraph w need ≡ checkNumbers l
-  after-graph need e v judged w q = ap (λ (x : Verdict). afterGraph x need) (sym q ∙ judged) ∙ checks _ e
 
 -- Write, where the problem's numbers are l, its checks gave f, and the buffer holds buf.
 module _ (p : Problem) (l buf : List ℕ) (numbered : Numbered p l) (f : FieldsAnswer) (is : f ≡ checkNumbers l) where

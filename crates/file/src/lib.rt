@@ -11,19 +11,8 @@ ghost use mathlib.Core.Path.{_≡_};
 ghost use lib.ListN.{length, replicate};
 ghost use Rattle.model.specs.File.{numberCount};
 ghost use Rattle.model.specs.Operations.{readFile, writeProblem, writtenBuffer};
-ghost use Rattle.model.specs.Verdicts.{asVerdict};
 ghost use Rattle.model.specs.Outcomes.{readOutcome, writeOutcome, readSays, writeSays};
-ghost use Rattle.file.specs.Steps.{NumbersRead, checkNumbers, judgeNumbers};
-
-// What the checks of a problem's numbers say, without the length of the file.
-fn verdict_of(answer: FieldsAnswer) -> Verdict
-    ensures { λ r. ⌜ r ≡ asVerdict answer ⌝ }
-{
-    match answer {
-        FieldsAnswer::Done(_) => Verdict::Accepted,
-        FieldsAnswer::Refused(refusal) => Verdict::Refused(refusal),
-    }
-}
+ghost use Rattle.file.specs.Steps.{NumbersRead};
 
 // Reads a file's numbers into places that are all zero. Where Read accepts, they are its problem's, and they have passed the problem's own checks: an
 // operation on a file goes on with them.
@@ -33,7 +22,7 @@ pub fn read_numbers(bytes: &[u8], numbers: &mut Numbers) -> Verdict
 {
     let fields = scan::read_fields(bytes, numbers);
     let FieldsAnswer::Done(end) = fields else {
-        return verdict_of(fields);
+        return checks::verdict_of(fields);
     };
     if end < bytes.len() {
         return Verdict::Refused(Refusal::LeftOver(end as u64));
@@ -54,41 +43,19 @@ pub fn read(bytes: &[u8]) -> ReadAnswer
     ReadAnswer::Accepted(records::problem_of(&numbers))
 }
 
-// A problem's own checks, on its numbers: the length of its file, or the first refusal of 3, 4 and 6 to 9.
-fn check(numbers: &Numbers) -> FieldsAnswer
-    ensures { λ r. ⌜ r ≡ checkNumbers (now (numbers .entry)) ⌝ }
-{
-    let fields = scan::check_fields(numbers);
-    let FieldsAnswer::Done(need) = fields else {
-        return fields;
-    };
-    let graph = graph::judge(numbers);
-    let Verdict::Accepted = graph else {
-        return FieldsAnswer::Refused(model::refusal_in(graph));
-    };
-    FieldsAnswer::Done(need)
-}
-
-// The same, for an operation that has no use for the length.
-pub fn judge(numbers: &Numbers) -> Verdict
-    ensures { λ r. ⌜ r ≡ judgeNumbers (now (numbers .entry)) ⌝ }
-{
-    verdict_of(check(numbers))
-}
-
 // **Write.** Writes the problem's file at the front of the buffer, or refuses and leaves the buffer as it is.
 pub fn write(problem: Problem, buf: &mut [u8]) -> WriteAnswer
     ensures { λ r. ⌜ r ≡ writeProblem problem (length (now (buf .entry))) ⌝ ∗ ⌜ now (buf .exit) ≡ writtenBuffer problem (now (buf .entry)) ⌝ }
     ensures { λ r. ⌜ writeOutcome r ≡ writeSays problem (length (now (buf .entry))) ⌝ }
 {
     let numbers = numbers::numbers_of(problem);
-    let checked = check(&numbers);
+    let checked = checks::check(&numbers);
     let FieldsAnswer::Done(need) = checked else {
-        return WriteAnswer::Refused(model::refusal_in(verdict_of(checked)));
+        return WriteAnswer::Refused(model::refusal_in(checks::verdict_of(checked)));
     };
     if buf.len() < need {
         return WriteAnswer::Refused(Refusal::BufferTooShort(need as u64));
     }
-    let written = scan::write_fields(buf, &numbers);
+    let written = writing::write_fields(buf, &numbers);
     WriteAnswer::Written(written)
 }

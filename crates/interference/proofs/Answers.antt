@@ -20,8 +20,8 @@ use Rattle.model.specs.Operations.{Checked}
 use Rattle.model.specs.Verdicts.{judgeProblem, wordCount, judgeInterference}
 use Rattle.model.specs.Results.{InterferenceSays}
 use Rattle.numbers.specs.Numbered.{Numbered}
-use Rattle.file.specs.Steps.{judgeNumbers}
-use Rattle.file.proofs.Opened.{judges-problem, same-problem, checked-problem}
+use Rattle.checks.specs.Steps.{judgeNumbers}
+use Rattle.checks.proofs.Opened.{judges-problem, same-problem, checked-problem}
 use Rattle.sets.specs.Sets.{setWords, SetTable}
 use Rattle.interference.specs.Copies.{Copied}
 use Rattle.lookup.proofs.Places.{facts, few-vertices, few-functions}

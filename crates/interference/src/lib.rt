@@ -62,7 +62,7 @@ pub fn interference(problem: Problem, words: &mut [u32]) -> InterferenceAnswer
     ensures { λ r. ⌜ FillsWords problem (now (words .entry)) (now (words .exit)) (interferenceOutcome r) ⌝ }
 {
     let numbers = numbers::numbers_of(problem);
-    let verdict = file::judge(&numbers);
+    let verdict = checks::judge(&numbers);
     let Verdict::Accepted = verdict else {
         return InterferenceAnswer::Refused(model::refusal_in(verdict));
     };

@@ -16,7 +16,7 @@ use Rattle.model.specs.Verdicts.{walkLimit, judgeProblem, judgeBound, judgeWalk
 use Rattle.model.specs.Results.{AcceptedWith, runAfter, runWalk}
 use Rattle.model.proofs.Answers.{accepted-both}
 use Rattle.numbers.specs.Numbered.{Numbered}
-use Rattle.file.proofs.Opened.{same-problem, judges-problem, opened}
+use Rattle.checks.proofs.Opened.{same-problem, judges-problem, opened}
 use Rattle.walk.proofs.Lawful.{judged-lawful, lawful-judged}
 use Rattle.run.proofs.Stages.{entries}
 use Rattle.run.proofs.Covered.{entries-good, ran-good}

@@ -43,7 +43,7 @@ pub fn run(problem: Problem, layout: &[u8], walk: &[u32], held: &mut Regions) ->
     ensures { λ r. ⌜ runOutcome r ≡ runSays problem (now (layout .entry)) (now (walk .entry)) ⌝ }
 {
     let numbers = numbers::numbers_of(problem);
-    let verdict = file::judge(&numbers);
+    let verdict = checks::judge(&numbers);
     let Verdict::Accepted = verdict else {
         return RunAnswer::Refused(model::refusal_in(verdict));
     };

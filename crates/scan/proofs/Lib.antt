@@ -1,4 +1,1 @@
-pub mod Going
 pub mod Reading
-pub mod Judging
-pub mod Writing

@@ -22,7 +22,7 @@ use Rattle.fields.proofs.Steps.{ranged-later}
 use Rattle.fields.proofs.OneField.{read-done, read-ended, read-misspelt, read-out, read-disorder, read-on}
 use Rattle.edge_runs.specs.Edges.{pastPairs, PairsRead}
 use Rattle.scan.specs.Answers.{misread}
-use Rattle.scan.proofs.Going.{Reached, reached-first, to-come, reached-next, reached-past, past-to-come}
+use Rattle.edge_runs.proofs.Going.{Reached, reached-first, to-come, reached-next, reached-past, past-to-come}
 use Rattle.model.specs.Places as places
 use Rattle.model.specs.Rows as rows
 

@@ -27,7 +27,7 @@ use Rattle.model.specs.Results.{BoundSays}
 use Rattle.model.proofs.Answers.{refused-not-accepted}
 use Rattle.model.proofs.Cases.{by-order}
 use Rattle.facts.proofs.Facts.{field-facts}
-use Rattle.file.proofs.Opened.{good}
+use Rattle.checks.proofs.Opened.{good}
 use Rattle.roundtrip.proofs.Prefix.{read-prefix}
 use Rattle.sheet.specs.declared.fill.BytesRead.{BytesRead}
 use Rattle.sheet.specs.declared.fill.BytesRead.the-variants.{To}

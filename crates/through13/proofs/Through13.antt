@@ -23,8 +23,8 @@ use Rattle.model.proofs.Cases.{by-bool}
 use Rattle.model.proofs.Answers.{accepted-both, refused-not-accepted}
 use Rattle.model.proofs.Search.{none-below}
 use Rattle.numbers.specs.Numbered.{Numbered}
-use Rattle.file.specs.Steps.{judgeNumbers}
-use Rattle.file.proofs.Opened.{judges-problem, checked-problem}
+use Rattle.checks.specs.Steps.{judgeNumbers}
+use Rattle.checks.proofs.Opened.{judges-problem, checked-problem}
 use Rattle.layout.specs.declared.LayoutAnswer.{LayoutAnswer}
 use Rattle.layout.specs.declared.LayoutAnswer.the-variants.{Fits, Refused}
 use Rattle.layout.specs.Answers.{layoutAnswer, layoutVerdict}

@@ -5,7 +5,7 @@ use Rattle.model.specs.declared.BoundAnswer.the-variants.{Refused}
 use Rattle.model.specs.Results.{BoundSays}
 use Rattle.model.specs.Outcomes.{boundOutcome}
 use Rattle.model.proofs.Answers.{said-outcome}
-use Rattle.file.proofs.Opened.{same-problem, opened}
+use Rattle.checks.proofs.Opened.{same-problem, opened}
 use Rattle.through13.proofs.Through13.{refused-early}
 use Rattle.bound.proofs.Stages.{refused-says}
 use borrow.Author.Needs.{needs}

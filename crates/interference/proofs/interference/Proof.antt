@@ -3,7 +3,7 @@ use Rattle.model.specs.declared.InterferenceAnswer.the-variants.{Refused}
 use Rattle.model.specs.Results.{InterferenceSays}
 use Rattle.model.specs.Outcomes.{interferenceOutcome}
 use Rattle.model.proofs.Answers.{said-outcome}
-use Rattle.file.proofs.Opened.{opened}
+use Rattle.checks.proofs.Opened.{opened}
 use Rattle.interference.proofs.Answers.{not-checked, own-says}
 use borrow.Author.Needs.{needs}
 use Rattle.interference.proofs.interference.Statement.{statement}

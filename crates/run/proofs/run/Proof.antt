@@ -1,7 +1,7 @@
 -- `run` meets Run's definition: the problem's own checks, and the rest on its numbers.
 use Rattle.model.specs.Outcomes.{runOutcome}
 use Rattle.model.proofs.Answers.{equal-outcome}
-use Rattle.file.proofs.Opened.{same-problem, opened}
+use Rattle.checks.proofs.Opened.{same-problem, opened}
 use Rattle.through13.proofs.Through13.{refused-early}
 use Rattle.run.proofs.Stages.{of-same, not-begun}
 use borrow.Author.Needs.{needs}

@@ -11,7 +11,7 @@ use Rattle.model.specs.File.{numberCount, inRange}
 use Rattle.fields.specs.Valid.{Placed}
 use Rattle.fields.proofs.Steps.{placed, ranged-later}
 use Rattle.pair_runs.specs.declared.Run.{Run}
-use Rattle.scan.proofs.Going.{past-row, past-nearer}
+use Rattle.edge_runs.proofs.Going.{past-row, past-nearer}
 use Rattle.scan.proofs.Reading.{Reading, read-first, read-all, read-past, read-refused, read-too-far, read-unordered, read-next}
 use Rattle.scan.proofs.read_fields.Statement.{statement}
 use Rattle.scan.proofs.read_fields.Tie as tie

@@ -16,8 +16,8 @@ use Rattle.model.proofs.Lists.{sets-append}
 use Rattle.spelling.proofs.Laws.{bytes-length}
 use Rattle.fields.proofs.Steps.{Later, ranged-later}
 use Rattle.fields.proofs.OneField.{Passed, checked, check-done, bytes-over, bytes-on}
-use Rattle.scan.specs.Answers.{Fits}
-use Rattle.scan.proofs.Going.{Reached, reached-first, to-come, reached-next}
+use Rattle.writing.specs.Fits.{Fits}
+use Rattle.edge_runs.proofs.Going.{Reached, reached-first, to-come, reached-next}
 use Rattle.model.specs.Rows as rows
 
 -- The position only grows.

@@ -5,10 +5,10 @@ use native.Mathlib.Omega.{arith}
 use borrow.Author.Needs.{needs}
 use Rattle.model.specs.File.{numberCount}
 use Rattle.fields.proofs.Steps.{placed}
-use Rattle.scan.proofs.Going.{nearer}
-use Rattle.scan.proofs.Writing.{Writing, write-first, write-all, write-room, write-later, write-next}
-use Rattle.scan.proofs.write_fields.Statement.{statement}
-use Rattle.scan.proofs.write_fields.Tie as tie
+use Rattle.edge_runs.proofs.Going.{nearer}
+use Rattle.writing.proofs.Writing.{Writing, write-first, write-all, write-room, write-later, write-next}
+use Rattle.writing.proofs.write_fields.Statement.{statement}
+use Rattle.writing.proofs.write_fields.Tie as tie
 
 abbrev Inv-loop : tie.InvT-loop
 Inv-loop buf₀ numbers table field₀ at₀ buf field at = Writing buf₀ numbers buf field at

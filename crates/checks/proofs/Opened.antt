@@ -18,7 +18,7 @@ use Rattle.model.proofs.Answers.{refused-not-done, refused-not-accepted}
 use Rattle.numbers.specs.Numbered.{Numbered}
 use Rattle.numbers.proofs.Inverse.{numbers-length, problem-of-numbers, numbers-of-problem}
 use Rattle.facts.proofs.Facts.{field-facts}
-use Rattle.file.specs.Steps.{checkNumbers, judgeNumbers}
+use Rattle.checks.specs.Steps.{checkNumbers, judgeNumbers}
 
 -- Checks that end well had the fields and the graph end well.
 pub record Good (f : FieldsAnswer) (p : Problem) (need : ℕ) : Type 0 where

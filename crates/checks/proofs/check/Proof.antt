@@ -1,10 +1,10 @@
 -- `check` meets its definition: the fields, then the graph, each on the good case of the one before.
 use mathlib.Core.Path.{sym, _∙_}
 use Rattle.facts.proofs.Facts.{field-facts}
-use Rattle.file.proofs.Stages.{bad-fields, after-graph}
+use Rattle.checks.proofs.Stages.{bad-fields, after-graph}
 use borrow.Author.Needs.{needs}
-use Rattle.file.proofs.check.Statement.{statement}
-use Rattle.file.proofs.check.Tie as tie
+use Rattle.checks.proofs.check.Statement.{statement}
+use Rattle.checks.proofs.check.Tie as tie
 
 -- The fields passed, and the graph is judged.
 abbrev passed : tie.After-judge → tie.After-check-fields

@@ -2,9 +2,9 @@
 use mathlib.Core.Path.{ap, _∙_}
 use Rattle.model.specs.Verdicts.{asVerdict}
 use borrow.Author.Needs.{needs}
-use Rattle.file.specs.Steps.{judgeNumbers}
-use Rattle.file.proofs.judge.Statement.{statement}
-use Rattle.file.proofs.judge.Tie as tie
+use Rattle.checks.specs.Steps.{judgeNumbers}
+use Rattle.checks.proofs.judge.Statement.{statement}
+use Rattle.checks.proofs.judge.Tie as tie
 
 check-requires : tie.Need-check-requires
 check-requires c κs = search needs

@@ -2,8 +2,8 @@
 use mathlib.Core.Path.{sym, ap}
 use Rattle.model.specs.Verdicts.{asVerdict}
 use borrow.Author.Needs.{needs}
-use Rattle.file.proofs.verdict_of.Statement.{statement}
-use Rattle.file.proofs.verdict_of.Tie as tie
+use Rattle.checks.proofs.verdict_of.Statement.{statement}
+use Rattle.checks.proofs.verdict_of.Tie as tie
 
 enum-told : tie.Need-enum-told
 enum-told c = search needs

@@ -10,10 +10,10 @@ use lib.ListN.{getD}
 use Rattle.model.specs.File.{numberCount, inRange}
 use Rattle.fields.specs.Valid.{Placed}
 use Rattle.fields.proofs.Steps.{placed, ranged-later}
-use Rattle.scan.proofs.Going.{past-row, past-nearer}
-use Rattle.scan.proofs.Judging.{Judging, judge-first, judge-all, judge-near, judge-room, judge-past, judge-too-far, judge-unordered, judge-next}
-use Rattle.scan.proofs.check_fields.Statement.{statement}
-use Rattle.scan.proofs.check_fields.Tie as tie
+use Rattle.edge_runs.proofs.Going.{past-row, past-nearer}
+use Rattle.judging.proofs.Judging.{Judging, judge-first, judge-all, judge-near, judge-room, judge-past, judge-too-far, judge-unordered, judge-next}
+use Rattle.judging.proofs.check_fields.Statement.{statement}
+use Rattle.judging.proofs.check_fields.Tie as tie
 use Rattle.model.specs.Places as places
 use Rattle.model.specs.Rows as rows
 

@@ -14,7 +14,7 @@ use Rattle.spelling.proofs.Laws.{size-five}
 use Rattle.fields.proofs.Steps.{placed, ranged-later}
 use Rattle.fields.proofs.OneField.{check-done, check-out, check-disorder, check-on}
 use Rattle.edge_runs.specs.Edges.{pastPairs, EdgesChecked}
-use Rattle.scan.proofs.Going.{Reached, reached-first, to-come, reached-next, reached-past, past-to-come}
+use Rattle.edge_runs.proofs.Going.{Reached, reached-first, to-come, reached-next, reached-past, past-to-come}
 use Rattle.model.specs.Places as places
 use Rattle.model.specs.Rows as rows
 
