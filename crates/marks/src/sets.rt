@@ -9,6 +9,9 @@ ghost use Prim.Native.Nat.{_*_, _<_, _≤_};
 ghost use lib.ListN.{length};
 ghost use Rattle.model.specs.Places;
 
+// What the lent words hold before.
+const BLANK: u32 = 77;
+
 // Function g, if it is a member, after a comma if some member came before. Whether any has come now.
 fn member(word: u32, g: usize, some: bool) -> bool
     requires { ⌜ g < Places.mostFunctions ⌝ }
@@ -60,11 +63,11 @@ fn rows(vertices: [Vertex; places::MOST_VERTICES], count: usize, functions: usiz
     }
 }
 
-// Whether the words from place `from` on still have the value they were given.
-fn kept(words: &[u32], from: usize) {
+// Tells whether the words from place `from` on are still blank.
+fn tell_kept(words: &[u32], from: usize) {
     let mut i = from;
     while i < words.len() {
-        if words[i] != 77 {
+        if words[i] != BLANK {
             text(b" changed\n");
             return;
         }
@@ -77,7 +80,7 @@ fn kept(words: &[u32], from: usize) {
 fn filled(count: usize, words: &[u32]) {
     prints::number(b"words filled ", count as u64);
     text(b", the rest");
-    kept(words, count);
+    tell_kept(words, count);
 }
 
 // As `refusal 10 at 21, the words kept`.
@@ -88,7 +91,7 @@ fn refused(refusal: Refusal, words: &[u32]) {
         model::place_of(refusal),
     );
     text(b", the words");
-    kept(words, 0);
+    tell_kept(words, 0);
 }
 
 // The sets of a problem with that many vertices and functions, from a buffer of 24 words.
@@ -96,7 +99,7 @@ fn table(name: &[u8], problem: Problem, count: usize, functions: usize)
     requires { ⌜ (count ≤ Places.mostVertices) × (count * functions ≤ 24) ⌝ }
 {
     text(name);
-    let mut words = [77u32; 24];
+    let mut words = [BLANK; 24];
     let answer = interference::interference(problem, &mut words);
     match answer {
         InterferenceAnswer::Refused(refusal) => refused(refusal, &words),
@@ -111,7 +114,7 @@ fn table(name: &[u8], problem: Problem, count: usize, functions: usize)
 // A problem for which 20 words are too few.
 fn short(name: &[u8], problem: Problem) {
     text(name);
-    let mut words = [77u32; 20];
+    let mut words = [BLANK; 20];
     let answer = interference::interference(problem, &mut words);
     match answer {
         InterferenceAnswer::Refused(refusal) => refused(refusal, &words),

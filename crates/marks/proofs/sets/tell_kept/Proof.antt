@@ -1,9 +1,9 @@
--- `kept` looks at the words from a place on.
+-- `tell_kept` looks at the words from a place on.
 use Prim.Native.Nat.{_≤_, _-_}
 use lib.ListN.{length}
 use borrow.Author.Needs.{needs}
-use Rattle.marks.proofs.sets.kept.Statement.{statement}
-use Rattle.marks.proofs.sets.kept.Tie as tie
+use Rattle.marks.proofs.sets.tell_kept.Statement.{statement}
+use Rattle.marks.proofs.sets.tell_kept.Tie as tie
 
 abbrev Inv-loop : tie.InvT-loop
 Inv-loop words from i₀ t4 t5 i = from ≤ i
@@ -47,8 +47,8 @@ text-requires-2 c κs = search needs
 returns-2 : tie.Need-returns-2 Inv-loop μ-loop
 returns-2 c = search needs
 
-pub kept-spec : {M : Type 1} → statement M
-kept-spec =
+pub tell-kept-spec : {M : Type 1} → statement M
+tell-kept-spec =
     tie.close
     (tie.spec
     Inv-loop
