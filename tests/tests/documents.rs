@@ -238,3 +238,38 @@ fn a_refusal_has_one_name() {
     assert_eq!(in_header, rust, "in include/examiner.h");
     assert_eq!(in_source, rust, "in crates/model/src/lib.rt");
 }
+
+/// The crates that a crate stands on, itself first, with the libraries of the kit that each uses.
+fn reached<'a>(list: &'a str, from: &'a str) -> Vec<(&'a str, Vec<&'a str>)> {
+    let uses: BTreeMap<&str, Vec<&str>> =
+        list.lines().filter_map(|line| line.split_once(':')).map(|(name, used)| (name, used.split_whitespace().collect())).collect();
+    let mut names = vec![from];
+    let mut at = 0;
+    while at < names.len() {
+        for used in &uses[names[at]] {
+            if uses.contains_key(used) && !names.contains(used) {
+                names.push(used);
+            }
+        }
+        at += 1;
+    }
+    names.into_iter().map(|name| (name, uses[name].iter().copied().filter(|used| !uses.contains_key(used)).collect())).collect()
+}
+
+/// A contract cannot say what a program writes: PROOF-MAP rests on it that `print` of `sheet`, which requires the slip, has the only call on standard output.
+#[test]
+fn one_call_writes_to_standard_output() {
+    let list = fs::read_to_string(root().join("crates.txt")).expect("crates.txt");
+    let (mut writers, mut writes) = (Vec::new(), Vec::new());
+    for (name, _) in reached(&list, "marksheet").into_iter().filter(|(_, libraries)| !libraries.is_empty()) {
+        writers.push(name);
+        for entry in fs::read_dir(root().join("crates").join(name).join("src")).expect("its sources") {
+            let text = fs::read_to_string(entry.expect("a source").path()).expect("a text");
+            let calls =
+                text.lines().map(str::trim).filter(|line| ["io::write", "io::print", "libc::write"].iter().any(|call| line.contains(call)));
+            writes.extend(calls.filter(|line| !line.contains("STDERR_FILENO")).map(String::from));
+        }
+    }
+    assert_eq!(writers, ["marksheet", "sheet"], "crates of the program that use the kit's libraries");
+    assert_eq!(writes, ["if !io::write_all(STDOUT_FILENO, &slip[..size]) {"], "what writes elsewhere than to standard error");
+}
