@@ -55,7 +55,7 @@ pub fn samples() -> Vec<Sample> {
         sample("p", &p(), &[0, 1, 1]),
         sample("q", &q(), &[0, 1]),
         sample("r", &r(), &[0, 1]),
-        sample("r-empty", &r(), &[]),
+        sample("r-0-0", &r(), &[0, 0]),
         Sample { name: "m10", problem: M10.to_vec(), layout: Vec::new() },
     ]
 }
