@@ -379,13 +379,15 @@ fn every_cut(c: &mut Comparison) {
 }
 
 fn every_value_of_every_byte(c: &mut Comparison) {
-    for file in [M10.to_vec(), file_of(&p()), file_of(&q()), file_of(&r())] {
+    // with all functions in one region, so that the whole file has its say in Bound
+    let cases = [(M10.to_vec(), &[0][..]), (file_of(&p()), &[0, 0, 0]), (file_of(&q()), &[0, 0]), (file_of(&r()), &[0, 0])];
+    for (file, shared) in cases {
         for at in 0..file.len() {
             for value in 0..=255 {
                 let mut file = file.clone();
                 file[at] = value;
                 c.read(&file);
-                c.layout_and_walk(&file, &[0], &[0]);
+                c.layout_and_walk(&file, shared, &[0]);
             }
         }
     }
@@ -470,12 +472,12 @@ fn limits(c: &mut Comparison) {
     for (bound, dead) in [(1, false), (2, false), (1, true), (MOST_VISITS, true)] {
         let problem = detour(bound, dead);
         let file = file_of(&problem);
-        assert_eq!(reference::bound(&file, &[]).is_ok(), bound == 1 || dead);
+        assert_eq!(reference::bound(&file, &[0, 0]).is_ok(), bound == 1 || dead);
         c.saw("a huge iteration that no lawful walk takes", bound == 1 && !dead);
         c.saw("a huge loop without a way out", dead);
         c.file(&file);
-        c.layout_and_walk(&file, &[], &[0, 1, 7]);
-        c.layout_and_walk(&file, &[], &[0, 1, 2]);
+        c.layout_and_walk(&file, &[0, 0], &[0, 1, 7]);
+        c.layout_and_walk(&file, &[0, 0], &[0, 1, 2]);
     }
     for depth in 1..=32 {
         let problem = deepest(depth);
@@ -483,7 +485,7 @@ fn limits(c: &mut Comparison) {
         c.saw("nested 32 deep", depth == 32);
         c.file(&file);
         let straight: Vec<u32> = (0..=depth + 1).collect();
-        c.layout_and_walk(&file, &[], &straight);
+        c.layout_and_walk(&file, &[0, 0], &straight);
         c.layout_and_walk(&file, &[0, 1], &straight);
     }
 }
@@ -564,9 +566,10 @@ fn every_entry_of_some_walks(c: &mut Comparison) {
     }
     for (problem, walk) in cases {
         let file = file_of(&problem);
+        let shared = vec![0; problem.functions.len()];
         let vertices = problem.vertices.len() as u32;
         for position in 0..=walk.len() {
-            c.run(&file, &[0], &walk[..position]);
+            c.run(&file, &shared, &walk[..position]);
             for entry in (0..vertices + 2).chain([127, 128, 255, 256, 65_536, u32::MAX]) {
                 let mut changed = walk.clone();
                 if position < walk.len() {
@@ -574,7 +577,7 @@ fn every_entry_of_some_walks(c: &mut Comparison) {
                 } else {
                     changed.push(entry);
                 }
-                c.run(&file, &[0], &changed);
+                c.run(&file, &shared, &changed);
             }
         }
     }
@@ -595,28 +598,29 @@ fn long_walks(c: &mut Comparison) {
     };
     let file = file_of(&problem);
     let walk = walks::of_length(&mut c.random, &problem, MOST_ENTRIES).expect("there are such walks");
-    for layout in [&[0, 1, 2][..], &[], &[0, 0, 1]] {
+    let shared = [0, 0, 0];
+    for layout in [&[0, 1, 2][..], &shared, &[0, 0, 1]] {
         assert!(reference::run(&file, layout, &walk).is_ok());
         c.saw("a lawful walk of 1,000,000 entries", true);
         c.layout_and_walk(&file, layout, &walk);
     }
     let mut broken = walk.clone();
     *broken.last_mut().expect("long") = 0;
-    c.layout_and_walk(&file, &[], &broken);
+    c.layout_and_walk(&file, &shared, &broken);
     *broken.last_mut().expect("long") = 32;
-    c.layout_and_walk(&file, &[], &broken);
-    c.layout_and_walk(&file, &[], &walk[..MOST_ENTRIES - 1]);
+    c.layout_and_walk(&file, &shared, &broken);
+    c.layout_and_walk(&file, &shared, &walk[..MOST_ENTRIES - 1]);
     let mut longer = walk;
     longer.push(0);
-    c.layout_and_walk(&file, &[], &longer);
+    c.layout_and_walk(&file, &shared, &longer);
     longer[0] = 77;
-    c.layout_and_walk(&file, &[], &longer);
+    c.layout_and_walk(&file, &shared, &longer);
     longer.push(1);
     c.layout_and_walk(&file, &[0, 1, 2], &longer);
     // what comes before 17
     c.layout_and_walk(&file, &[0, 1, 2, 3], &longer);
     c.layout_and_walk(&file, &[0, 32, 2], &longer);
-    c.layout_and_walk(&file[1..], &[], &longer);
+    c.layout_and_walk(&file[1..], &shared, &longer);
 
     // one visit more than any bound allows, in one stay
     let mut longest_stay = r();
@@ -624,10 +628,10 @@ fn long_walks(c: &mut Comparison) {
     let file = file_of(&longest_stay);
     let visits = |times: usize| [&[0], &[1, 2].repeat(times - 1)[..], &[1, 3]].concat();
     let most = MOST_VISITS as usize;
-    assert!(reference::run(&file, &[], &visits(most)).is_ok());
-    assert_eq!(reference::run(&file, &[], &visits(most + 1)), Err(Refusal { number: 16, place: 1 + 2 * u64::from(MOST_VISITS) }));
-    c.layout_and_walk(&file, &[], &visits(most));
-    c.layout_and_walk(&file, &[], &visits(most + 1));
+    assert!(reference::run(&file, &[0, 0], &visits(most)).is_ok());
+    assert_eq!(reference::run(&file, &[0, 0], &visits(most + 1)), Err(Refusal { number: 16, place: 1 + 2 * u64::from(MOST_VISITS) }));
+    c.layout_and_walk(&file, &[0, 0], &visits(most));
+    c.layout_and_walk(&file, &[0, 0], &visits(most + 1));
     // long stays in the largest problems
     for _ in 0..20 * effort() {
         let plan = Plan { bounds: vec![1, 100, MOST_VISITS], ..Plan::largest(&mut c.random) };

@@ -93,7 +93,7 @@ mod bounds {
     fn m2_m3_m4_p() {
         assert_eq!(bound(&p(14), &[0, 1, 1]), Ok(Bound { need: 14, contested: 2, first_loads: 8, bound: 85 }));
         assert_eq!(bound(&p(14), &[0, 0, 1]).map(|b| b.bound), Ok(95));
-        assert_eq!(bound(&p(14), &[]).map(|b| (b.need, b.bound)), Ok((8, 100)));
+        assert_eq!(bound(&p(14), &[0, 0, 0]).map(|b| (b.need, b.bound)), Ok((8, 100)));
     }
 
     #[test]
@@ -111,9 +111,9 @@ mod bounds {
     #[test]
     fn m7_m8_m9_r() {
         assert_eq!(bound(&r(4), &[0, 1]).map(|b| b.bound), Ok(39));
-        assert_eq!(bound(&r(4), &[]).map(|b| b.bound), Ok(65));
+        assert_eq!(bound(&r(4), &[0, 0]).map(|b| b.bound), Ok(65));
         assert_eq!(bound(&r(1), &[0, 1]).map(|b| b.bound), Ok(12));
-        assert_eq!(bound(&r(1), &[]).map(|b| b.bound), Ok(14));
+        assert_eq!(bound(&r(1), &[0, 0]).map(|b| b.bound), Ok(14));
     }
 
     #[test]
@@ -148,7 +148,7 @@ mod runs {
         // at each number of visits to the header there is one lawful walk
         let cycles = (1..=4).map(|visits| {
             let walk = [&[0], &[1, 2].repeat(visits - 1)[..], &[1, 3]].concat();
-            run(&r(4), &[], &walk).expect("lawful").cycles
+            run(&r(4), &[0, 0], &walk).expect("lawful").cycles
         });
         assert_eq!(cycles.max(), Some(60));
     }
