@@ -1,7 +1,7 @@
 -- Laws of the search for the lowest number that passes a test: what a loop `while i < n` that stops at the first hit knows at each point, and what
 -- its answer says of the numbers below n.
 use Prim.Native.Nat.{ℕ, zero, suc, _+_, _-_, _≤_, _<_}
-use mathlib.Core.Path.{_≡_, sym, ap, _∙_}
+use mathlib.Core.Path.{_≡_, refl, sym, ap, _∙_}
 use mathlib.Core.Bool.{Bool, true, false, cond, _||_}
 use native.Mathlib.Omega.{arith}
 use native.Mathlib.Nat.{sub-zero}
@@ -62,27 +62,51 @@ found-from (suc left) i test h =
     (λ e. rw (e, e))
     (λ e. rw e (found-from left (i + 1) test (let k : lowestFrom left (i + 1) test < i + suc left = rw e at h in omega arith)))
 
-missed-from : (left i : ℕ) (test : ℕ → Bool) → i + left ≤ lowestFrom left i test → (j : ℕ) → i ≤ j → j < i + left → test j ≡ false
+missed-from : (left i : ℕ) (test : ℕ → Bool) (j : ℕ) → i ≤ j → j < i + left → j < lowestFrom left i test → test j ≡ false
 unfolding lowestFrom
-missed-from zero i test h j low high = let z : ⊥ = omega arith in elim z [ ]
-missed-from (suc left) i test h j low high =
+missed-from zero i test j low high below = let z : ⊥ = omega arith in elim z [ ]
+missed-from (suc left) i test j low high below =
     by-bool (test i)
-    (λ e. let k : i + suc left ≤ i = rw e at h in let z : ⊥ = omega arith in elim z [ ])
+    (λ e. let k : j < i = rw e at below in let z : ⊥ = omega arith in elim z [ ])
     (λ e.
-    let k : i + suc left ≤ lowestFrom left (i + 1) test = rw e at h in
+    let k : j < lowestFrom left (i + 1) test = rw e at below in
     by-bool (eqb i j)
     (λ q. ap test (sym (eqb-true i j q)) ∙ e)
-    (λ q. missed-from left (i + 1) test (omega arith) j (omega (arith, eqb-false i j q)) (omega arith)))
+    (λ q. missed-from left (i + 1) test j (omega (arith, eqb-false i j q)) (omega arith) k))
+
+alike-from : (left i : ℕ) (test other : ℕ → Bool) → ((j : ℕ) → j < i + left → test j ≡ other j) → lowestFrom left i test ≡ lowestFrom left i other
+unfolding lowestFrom
+alike-from zero i test other same = refl
+alike-from (suc left) i test other same = rw (same i (omega arith), alike-from left (i + 1) test other (λ j h. same j (omega arith)))
+
+-- Tests that say the same of the numbers below n have the same lowest.
+pub lowest-alike : (n : ℕ) (test other : ℕ → Bool) → ((i : ℕ) → i < n → test i ≡ other i) → lowestBelow n test ≡ lowestBelow n other
+lowest-alike n test other same = alike-from n 0 test other (λ j h. same j (omega arith))
+
+within-from : (left i : ℕ) (test : ℕ → Bool) → lowestFrom left i test ≤ i + left
+unfolding lowestFrom
+within-from zero i test = omega arith
+within-from (suc left) i test =
+    by-bool (test i) (λ e. rw e (omega arith)) (λ e. rw e (omega (arith, within-from left (i + 1) test)))
 
 -- What the search's answer says.
 module _ (n : ℕ) (test : ℕ → Bool) where
+  pub lowest-within : lowestBelow n test ≤ n
+  lowest-within = omega (arith, within-from n 0 test)
+
+  -- The lowest number that passes, passes.
+  pub lowest-passes : existsBelow n test ≡ true → test (lowestBelow n test) ≡ true
+  lowest-passes e = found-from n 0 test (omega (arith, ltb-true (lowestBelow n test) n e))
+
   pub some-below : existsBelow n test ≡ true → (i : ℕ) × (i < n) × (test i ≡ true)
-  some-below e =
-      let h : lowestBelow n test < n = ltb-true (lowestBelow n test) n e in
-      (lowestBelow n test, h, found-from n 0 test (omega arith))
+  some-below e = (lowestBelow n test, ltb-true (lowestBelow n test) n e, lowest-passes e)
 
   pub none-below : existsBelow n test ≡ false → (i : ℕ) → i < n → test i ≡ false
-  none-below e i h = missed-from n 0 test (omega (arith, ltb-false (lowestBelow n test) n e)) i (omega arith) (omega arith)
+  none-below e i h = missed-from n 0 test i (omega arith) (omega arith) (omega (arith, ltb-false (lowestBelow n test) n e))
+
+  -- The numbers below the lowest that passes do not.
+  pub below-lowest : (i : ℕ) → i < n → i < lowestBelow n test → test i ≡ false
+  below-lowest i h below = missed-from n 0 test i (omega arith) (omega arith) below
 
   pub exists-at : (i : ℕ) → i < n → test i ≡ true → existsBelow n test ≡ true
   exists-at i h e = by-bool (existsBelow n test) (λ q. q) (λ q. true-not-false (sym e ∙ none-below q i h))
