@@ -1,1 +1,3 @@
+pub mod Alike
+pub mod FilledIn
 pub mod Judged

@@ -7,7 +7,8 @@ use model::limits;
 ghost use mathlib.Core.Path.{_≡_};
 ghost use Rattle.model.specs.Numbers.{problemOf};
 ghost use Rattle.model.specs.Operations.{Checked};
-ghost use Rattle.model.specs.Layouts.{needOf, judgeLength, judgeRegions, judgeNeed, judgeLayout};
+ghost use Rattle.model.specs.Layouts.{filledIn, needOf, judgeLength, judgeRegions, judgeNeed, judgeLayout};
+ghost use Rattle.regions.specs.Regions.{ListsAll};
 ghost use Rattle.layout.specs.Answers.{layoutAnswer, layoutVerdict};
 
 // What judging a layout says: the bytes that it needs, which the scratchpad has, or the refusal.
@@ -31,6 +32,7 @@ fn judge_length(l: &Numbers, layout: &[u8]) -> Verdict
 
 // 12: a region above the last.
 fn judge_regions(l: &Numbers, layout: &[u8]) -> Verdict
+    requires { ⌜ ListsAll (problemOf (now l)) (now layout) ⌝ }
     ensures { λ r. ⌜ r ≡ judgeRegions (problemOf (now (l .entry))) (now (layout .entry)) ⌝ }
 {
     let count = lookup::function_count(l);
@@ -54,20 +56,20 @@ fn judge_need(l: &Numbers, needed: Bytes) -> Verdict
     Verdict::Accepted
 }
 
-// 11, 12 and 13, each on the good case of the one before.
-pub fn judge(l: &Numbers, layout: &[u8]) -> LayoutAnswer
-    requires { ⌜ Checked (now l) ⌝ }
+// 11, 12 and 13, each on the good case of the one before: 11 of the layout as it was handed in, 12 and 13 of its regions, filled in.
+pub fn judge(l: &Numbers, layout: &[u8], regions: &[u8]) -> LayoutAnswer
+    requires { ⌜ Checked (now l) ⌝ ∗ ⌜ now regions ≡ filledIn (now layout) (problemOf (now l) .«function_count») ⌝ }
     ensures { λ r. ⌜ r ≡ layoutAnswer (judgeLayout (problemOf (now (l .entry))) (now (layout .entry))) (needOf (problemOf (now (l .entry))) (now (layout .entry))) ⌝ }
 {
     let length = judge_length(l, layout);
     let Verdict::Accepted = length else {
         return LayoutAnswer::Refused(model::refusal_in(length));
     };
-    let regions = judge_regions(l, layout);
-    let Verdict::Accepted = regions else {
-        return LayoutAnswer::Refused(model::refusal_in(regions));
+    let known = judge_regions(l, regions);
+    let Verdict::Accepted = known else {
+        return LayoutAnswer::Refused(model::refusal_in(known));
     };
-    let needed = regions::need(l, layout);
+    let needed = regions::need(l, regions);
     let room = judge_need(l, needed);
     let Verdict::Accepted = room else {
         return LayoutAnswer::Refused(model::refusal_in(room));

@@ -1,10 +1,20 @@
 -- `layout::judge` is its definition: 11, 12 and 13, each on the good case of the one before.
+use mathlib.Core.Path.{_≡_, sym, _∙_}
 use borrow.Author.Needs.{needs}
+use Rattle.model.specs.declared.Problem.{Problem}
+use Rattle.model.specs.Numbers.{problemOf}
+use Rattle.model.specs.Layouts.{regionOf}
+use Rattle.regions.specs.Regions.{ListsAll}
+use Rattle.layout.proofs.Alike.{alike-regions, alike-need}
+use Rattle.layout.proofs.FilledIn.{lists-all, regions-same}
 use Rattle.layout.proofs.Judged.{bad-length, bad-region, too-large, fits}
 use Rattle.layout.proofs.judge.Statement.{statement}
 use Rattle.layout.proofs.judge.Tie as tie
 
--- The layout is short enough.
+abbrev entry : tie.After-judge-length → tie.Start
+entry c = c .before .before .before
+
+-- The layout is short enough: its regions are those filled in.
 abbrev measured : tie.After-enum-told → tie.After-judge-length
 measured c = c .before .before
 
@@ -22,6 +32,17 @@ needed c = c .before
 abbrev known : tie.After-judge-need → tie.After-enum-told3
 known c = needed c .before
 
+abbrev problem : tie.After-judge-length → Problem
+problem c = problemOf (entry c .args .l .now)
+
+listed-all : (c : tie.After-judge-length) → ListsAll (problem c) (entry c .args .regions .now)
+listed-all c = lists-all (problem c) _ _ (entry c .pre .1)
+
+same : (c : tie.After-enum-told) → let a = entry (measured c) .args in regionOf (a .regions .now) ≡ regionOf (a .layout .now)
+same c =
+    let m = measured c in
+    regions-same (problem m) _ _ (entry m .pre .1) (sym (m .judge-length .ensures) ∙ c .enum-told .given .1)
+
 judge-length-requires : tie.Need-judge-length-requires
 judge-length-requires c κs = search needs
 
@@ -38,7 +59,7 @@ returns : tie.Need-returns
 returns c = bad-length _ _ (c .before .before .before .judge-length .ensures) (c .refusal-in .ensures)
 
 judge-regions-requires : tie.Need-judge-regions-requires
-judge-regions-requires c κs = search needs
+judge-regions-requires c κs = listed-all (measured c)
 
 enum-told-3 : tie.Need-enum-told-3
 enum-told-3 c = search needs
@@ -53,10 +74,10 @@ returns-2 : tie.Need-returns-2
 returns-2 c =
     let r = c .before .before .before in
     let s = short r in
-    bad-region _ _ (measured s .judge-length .ensures) (s .enum-told .given .1) (r .judge-regions .ensures) (c .refusal-in2 .ensures)
+    bad-region _ _ (measured s .judge-length .ensures) (s .enum-told .given .1) (r .judge-regions .ensures ∙ alike-regions _ _ (same s) (problem (measured s))) (c .refusal-in2 .ensures)
 
 need-requires : tie.Need-need-requires
-need-requires c κs = search needs
+need-requires c κs = let m = measured (short (searched c)) in (entry m .pre .0, listed-all m)
 
 judge-need-requires : tie.Need-judge-need-requires
 judge-need-requires c κs = search needs
@@ -76,8 +97,8 @@ returns-3 c =
     let k = known w in
     let r = searched k in
     let s = short r in
-    too-large _ _ (measured s .judge-length .ensures) (s .enum-told .given .1) (r .judge-regions .ensures) (k .enum-told3 .given .1)
-    (needed w .need .ensures) (w .judge-need .ensures) (c .refusal-in3 .ensures)
+    too-large _ _ (measured s .judge-length .ensures) (s .enum-told .given .1) (r .judge-regions .ensures ∙ alike-regions _ _ (same s) (problem (measured s))) (k .enum-told3 .given .1)
+    (needed w .need .ensures ∙ alike-need _ _ (same s) (problem (measured s))) (w .judge-need .ensures) (c .refusal-in3 .ensures)
 
 returns-4 : tie.Need-returns-4
 returns-4 c =
@@ -85,8 +106,8 @@ returns-4 c =
     let k = known w in
     let r = searched k in
     let s = short r in
-    fits _ _ (measured s .judge-length .ensures) (s .enum-told .given .1) (r .judge-regions .ensures) (k .enum-told3 .given .1)
-    (needed w .need .ensures) (w .judge-need .ensures) (c .enum-told5 .given .1)
+    fits _ _ (measured s .judge-length .ensures) (s .enum-told .given .1) (r .judge-regions .ensures ∙ alike-regions _ _ (same s) (problem (measured s))) (k .enum-told3 .given .1)
+    (needed w .need .ensures ∙ alike-need _ _ (same s) (problem (measured s))) (w .judge-need .ensures) (c .enum-told5 .given .1)
 
 pub judge-spec : {M : Type 1} → statement M
 judge-spec =

@@ -28,10 +28,10 @@ loop-holds : tie.Need-loop-holds Inv-loop μ-loop
 loop-holds c = none-sized _ _
 
 region-of-requires : tie.Need-region-of-requires Inv-loop μ-loop
-region-of-requires c κs = search needs
+region-of-requires c κs = omega (arith, entry (c .before .before) .pre .1)
 
 size-of-requires : tie.Need-size-of-requires Inv-loop μ-loop
-size-of-requires c κs = (facts _ (entry (turn c) .pre), omega arith)
+size-of-requires c κs = (facts _ (entry (turn c) .pre .0), omega arith)
 
 enlarge-requires : tie.Need-enlarge-requires Inv-loop μ-loop
 enlarge-requires c κs = turn (c .before) .loop .inv .long

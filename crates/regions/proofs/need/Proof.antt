@@ -39,7 +39,7 @@ sum-of-bytes-requires : tie.Need-sum-of-bytes-requires Inv-loop μ-loop
 sum-of-bytes-requires c κs =
     let t = c .before in
     let e = entry t in
-    omega (arith, t .before .largest-sizes .ensures .item (t .loop .region) (omega arith), sum-high _ (e .pre) (e .args .layout .now) (t .loop .region) (omega arith))
+    omega (arith, t .before .largest-sizes .ensures .item (t .loop .region) (omega arith), sum-high _ (e .pre .0) (e .args .layout .now) (t .loop .region) (omega arith))
 
 add-region : tie.Need-add-region Inv-loop μ-loop
 add-region c = search needs

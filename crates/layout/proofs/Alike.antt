@@ -1,0 +1,76 @@
+-- Layouts that give every function the same region are alike: what depends on a layout through its regions alone is the same of both.
+use Prim.Native.Nat.{ℕ, _+_, _-_, _≤_}
+use mathlib.Core.Path.{_≡_, refl, sym, ap, subst, _∙_}
+use mathlib.Core.List.{List, [], _∷_}
+use mathlib.Core.Bool.{Bool, true, cond}
+use lib.Dec.{eqb, ltb}
+use Rattle.model.specs.declared.Refusal.the-variants.{UnknownRegion}
+use Rattle.model.specs.declared.Problem.{Problem}
+use Rattle.model.specs.declared.Bound.{Bound}
+use Rattle.model.specs.Limits.{mostRegions}
+use Rattle.model.specs.Graph.{broken}
+use Rattle.model.specs.Costs.{sizeOf, loadCost, functionOf, ownCost, total, largest}
+use Rattle.model.specs.Layouts.{regionOf, largestIn, needOf, judgeRegions}
+use Rattle.model.specs.Walks.{EdgeOf, lastVertex}
+use Rattle.model.specs.Interference.{Contested, Cold}
+use Rattle.model.specs.Charges.{Told}
+use Rattle.model.specs.Runs.{held, hit, cycles, loads, heldNumber, heldAfter}
+use Rattle.model.specs.Results.{BoundIs, PastTheLimit}
+
+module _ (a b : List ℕ) (same : regionOf a ≡ regionOf b) (p : Problem) where
+  pub alike-regions : judgeRegions p a ≡ judgeRegions p b
+  alike-regions = λ i. broken (p .«function_count») (λ f. ltb (mostRegions - 1) (same i f)) UnknownRegion
+
+  pub alike-need : needOf p a ≡ needOf p b
+  unfolding needOf largestIn
+  alike-need = λ i. total mostRegions (λ r. largest (p .«function_count») (λ f. cond (eqb (same i f) r) (sizeOf p f) 0))
+
+  pub alike-cycles : (h : List ℕ) → cycles p a h ≡ cycles p b h
+  unfolding cycles
+  alike-cycles [] = refl
+  alike-cycles (v ∷ h) = λ i. alike-cycles h i + (ownCost p v + cond (hit (functionOf p) (same i) v h) 0 (loadCost p (functionOf p v)))
+
+  pub alike-loads : (h : List ℕ) → loads p a h ≡ loads p b h
+  unfolding loads
+  alike-loads [] = refl
+  alike-loads (v ∷ h) = λ i. alike-loads h i + cond (hit (functionOf p) (same i) v h) 0 1
+
+  pub alike-held : (h : List ℕ) → heldAfter p a h ≡ heldAfter p b h
+  unfolding heldAfter
+  alike-held h = λ i r. heldNumber p a (held (functionOf p) (same i) r h)
+
+  alike-told : {contested cold : ℕ → Bool} → Told p a contested cold → Told p b contested cold
+  alike-told {contested} {cold} told =
+      record {
+        contested-is = coe 0 1 (i. (v : ℕ) → contested v ≡ true → Contested (functionOf p) (EdgeOf p) (same i) v) (told .contested-is);
+        contested-all = coe 0 1 (i. (v : ℕ) → Contested (functionOf p) (EdgeOf p) (same i) v → contested v ≡ true) (told .contested-all);
+        cold-is = coe 0 1 (i. (f : ℕ) → cold f ≡ true → Cold (functionOf p) (EdgeOf p) (same i) f) (told .cold-is);
+        cold-all = coe 0 1 (i. (f : ℕ) → Cold (functionOf p) (EdgeOf p) (same i) f → cold f ≡ true) (told .cold-all);
+      }
+
+  pub alike-bound : {x : Bound} → BoundIs p a x → BoundIs p b x
+  alike-bound {x} is =
+      record {
+        contested = is .contested;
+        cold = is .cold;
+        told = alike-told (is .told);
+        need-is = is .need-is ∙ alike-need;
+        contested-are = is .contested-are;
+        first-is = is .first-is;
+        greatest = is .greatest;
+        greatest-is = is .greatest-is;
+        bound-is = is .bound-is;
+        within-limit = is .within-limit;
+        covers = λ h lawful. subst (λ (n : ℕ). n ≤ x .bound .0) (alike-cycles (lastVertex p ∷ h)) (is .covers h lawful);
+      }
+
+  pub alike-past : PastTheLimit p a → PastTheLimit p b
+  alike-past is =
+      record {
+        contested = is .contested;
+        cold = is .cold;
+        told = alike-told (is .told);
+        past = is .past;
+        lawful = is .lawful;
+        over = is .over;
+      }
