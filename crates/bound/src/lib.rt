@@ -42,11 +42,14 @@ pub fn bound_checked(l: &Numbers, layout: &[u8]) -> BoundAnswer
     requires { ⌜ Checked (now l) ⌝ }
     ensures { λ r. ⌜ BoundSays (problemOf (now (l .entry))) (now (layout .entry)) r ⌝ }
 {
-    let judged = layout::judge(l, layout);
+    let count = lookup::function_count(l);
+    let regions = filled::filled_in(layout, count);
+    let whole: &[u8] = &regions[..count];
+    let judged = layout::judge(l, layout, whole);
     let LayoutAnswer::Fits(need) = judged else {
         return BoundAnswer::Refused(model::refusal_in(layout::verdict_of(judged)));
     };
-    price(l, layout, need)
+    price(l, whole, need)
 }
 
 // **Bound.** Bytes needed, contested vertices, first loads and the bound, or the first refusal that applies.

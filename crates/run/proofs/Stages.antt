@@ -14,12 +14,15 @@ use Rattle.model.specs.declared.Problem.{Problem}
 use Rattle.model.specs.declared.Run.{Run}
 use Rattle.model.specs.declared.RunAnswer.{RunAnswer}
 use Rattle.model.specs.declared.RunAnswer.the-variants as run
-use Rattle.model.specs.Numbers.{problemOf}
+use Rattle.model.specs.Limits.{mostRegions}
+use Rattle.model.specs.Numbers.{table, problemOf}
 use Rattle.model.specs.Operations.{Checked}
 use Rattle.model.specs.Graph.{andThen}
+use Rattle.model.specs.Layouts.{regionOf}
 use Rattle.model.specs.Verdicts.{walkLimit, judgeBound, judgeWalk, judgeRun}
 use Rattle.model.specs.Results.{runAfter, runWalk, regionsAfter, runRegions}
-use Rattle.through13.proofs.Through13.{regions-known}
+use Rattle.regions.specs.Regions.{KnownRegions}
+use Rattle.layout.proofs.Alike.{alike-cycles, alike-loads, alike-held}
 use Rattle.simulation.specs.Running.{Ran, Runnable}
 
 module _ (p : Problem) (layout walk regions : List ℕ) where
@@ -63,7 +66,16 @@ of-same p q layout walk regions same a after says =
     (says .0 ∙ ap (λ (x : Problem). runWalk x layout walk) same, says .1 ∙ ap (λ (x : Problem). runRegions x layout walk regions) same)
 
 -- A walk that was judged good on checked numbers can be run.
-pub runnable : (l layout walk : List ℕ) → Checked l → judgeBound (problemOf l) layout ≡ Accepted → length walk ≤ walkLimit →
-    (v : Verdict) → v ≡ judgeWalk (problemOf l) [] 0 walk → v ≡ Accepted → Runnable l layout walk
-runnable l layout walk checked good short v judged whole =
-    record { checked = checked; regions = regions-known (problemOf l) layout good; short = short; accepted = sym judged ∙ whole }
+pub runnable : (l regions walk : List ℕ) → Checked l → KnownRegions (problemOf l) regions → length walk ≤ walkLimit →
+    (v : Verdict) → v ≡ judgeWalk (problemOf l) [] 0 walk → v ≡ Accepted → Runnable l regions walk
+runnable l regions walk checked known short v judged whole =
+    record { checked = checked; regions = known; short = short; accepted = sym judged ∙ whole }
+
+-- What it ran by its regions, filled in, it ran by the layout.
+pub ran-alike : (p : Problem) (regions layout h held : List ℕ) (r : Run) → regionOf regions ≡ regionOf layout → Ran p regions h held r → Ran p layout h held r
+ran-alike p regions layout h held r same is =
+    record {
+      cycles-are = is .cycles-are ∙ alike-cycles regions layout same p h;
+      loads-are = is .loads-are ∙ alike-loads regions layout same p h;
+      held-are = is .held-are ∙ ap (table mostRegions) (alike-held regions layout same p h);
+    }

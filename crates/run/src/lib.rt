@@ -21,7 +21,10 @@ pub fn run_checked(l: &Numbers, layout: &[u8], walk: &[u32], held: &mut Regions)
     ensures { λ r. ⌜ r ≡ runWalk (problemOf (now (l .entry))) (now (layout .entry)) (now (walk .entry)) ⌝ }
     ensures { λ r. ⌜ now (held .exit) ≡ runRegions (problemOf (now (l .entry))) (now (layout .entry)) (now (walk .entry)) (now (held .entry)) ⌝ }
 {
-    let judged = layout::judge(l, layout);
+    let count = lookup::function_count(l);
+    let regions = filled::filled_in(layout, count);
+    let whole: &[u8] = &regions[..count];
+    let judged = layout::judge(l, layout, whole);
     let LayoutAnswer::Fits(_) = judged else {
         return RunAnswer::Refused(model::refusal_in(layout::verdict_of(judged)));
     };
@@ -32,7 +35,7 @@ pub fn run_checked(l: &Numbers, layout: &[u8], walk: &[u32], held: &mut Regions)
     let Verdict::Accepted = verdict else {
         return RunAnswer::Refused(model::refusal_in(verdict));
     };
-    let run = simulation::simulate(l, layout, walk, held);
+    let run = simulation::simulate(l, whole, walk, held);
     RunAnswer::Ran(run)
 }
 

@@ -116,7 +116,7 @@ module _ (l : List ℕ) (checked : Checked l) (layout places costs : List ℕ) (
 
   module _ (inside : KnownRegions (problemOf l) layout) where
     region-few : getD places (2 * v + 1) 0 < limits.mostRegions
-    region-few = omega (arith, placed .other v known, inside (functionOf (problemOf l) v) (function-below l (facts _ checked) v known))
+    region-few = omega (arith, placed .other v known, inside .known (functionOf (problemOf l) v) (function-below l (facts _ checked) v known))
 
     may-visit : (run : Run) → run .cycles .0 + dearest < 2 ^ 64 → run .loads + 1 < 2 ^ 64 → Visiting places costs run v
     may-visit run cycles-fit loads-fit =

@@ -15,6 +15,7 @@ ghost use lib.Dec.{eqb};
 ghost use Rattle.model.specs.Places.{mostVertices};
 ghost use Rattle.model.specs.Numbers.{problemOf};
 ghost use Rattle.model.specs.Operations.{Checked};
+ghost use Rattle.regions.specs.Regions.{ListsAll};
 ghost use Rattle.simulation.specs.Running.{Places, Costs, Visiting, Visited, Ran, Runnable};
 
 // Two places a vertex.
@@ -28,7 +29,7 @@ const NONE: u8 = 255;
 
 // The function of each vertex and the region of that.
 fn place_table(l: &Numbers, layout: &[u8]) -> [usize; PAIR_COUNT]
-    requires { ⌜ Checked (now l) ⌝ }
+    requires { ⌜ Checked (now l) ⌝ ∗ ⌜ ListsAll (problemOf (now l)) (now layout) ⌝ }
     ensures { λ r. ⌜ Places (problemOf (now (l .entry))) (now (layout .entry)) r ⌝ }
 {
     let mut table = [0usize; PAIR_COUNT];

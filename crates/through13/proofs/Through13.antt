@@ -1,6 +1,6 @@
 -- The checks of Bound and Run through 13: the problem's own, then the layout's.
-use Prim.Native.Nat.{ℕ, _-_}
-use mathlib.Core.Path.{_≡_, refl, sym, ap, _∙_}
+use Prim.Native.Nat.{ℕ, _-_, _<_}
+use mathlib.Core.Path.{_≡_, refl, sym, ap, subst, _∙_}
 use mathlib.Core.List.{List}
 use mathlib.Core.Bool.{Bool, false, cond}
 use native.Mathlib.Omega.{arith}
@@ -17,7 +17,7 @@ use Rattle.model.specs.Search.{existsBelow}
 use Rattle.model.specs.Operations.{Checked}
 use Rattle.model.specs.Graph.{andThen}
 use Rattle.model.specs.Limits.{mostRegions}
-use Rattle.model.specs.Layouts.{regionOf, needOf, judgeLayout}
+use Rattle.model.specs.Layouts.{filledIn, regionOf, needOf, judgeLength, judgeLayout}
 use Rattle.model.specs.Verdicts.{judgeProblem, judgeBound}
 use Rattle.model.proofs.Cases.{by-bool}
 use Rattle.model.proofs.Answers.{accepted-both, refused-not-accepted}
@@ -28,6 +28,8 @@ use Rattle.checks.proofs.Opened.{judges-problem, checked-problem}
 use Rattle.layout.specs.declared.LayoutAnswer.{LayoutAnswer}
 use Rattle.layout.specs.declared.LayoutAnswer.the-variants.{Fits, Refused}
 use Rattle.layout.specs.Answers.{layoutAnswer, layoutVerdict}
+use Rattle.layout.proofs.Alike.{alike-need}
+use Rattle.layout.proofs.FilledIn.{lists-all, regions-same}
 use Rattle.regions.specs.Regions.{KnownRegions}
 
 module _ (p : Problem) (layout : List ℕ) where
@@ -39,11 +41,10 @@ module _ (p : Problem) (layout : List ℕ) where
   unknown f = ltb (mostRegions - 1) (regionOf layout f)
 
   -- Where nothing was refused, every function has one of the regions.
-  pub regions-known : judgeBound p layout ≡ verdict.Accepted → KnownRegions p layout
-  unfolding judgeBound judgeLayout
-  regions-known e f below =
-      let layout-good = accepted-both (judgeProblem p) _ e .1 in
-      let rest = accepted-both (cond (ltb (p .«function_count») _) _ _) _ layout-good .1 in
+  layout-known : judgeLayout p layout ≡ verdict.Accepted → (f : ℕ) → f < p .«function_count» → regionOf layout f < mostRegions
+  unfolding judgeLayout
+  layout-known layout-good f below =
+      let rest = accepted-both (judgeLength p layout) _ layout-good .1 in
       let known = accepted-both (cond (existsBelow (p .«function_count») unknown) _ _) _ rest .0 in
       let none : existsBelow (p .«function_count») unknown ≡ false =
       by-bool (existsBelow (p .«function_count») unknown) (λ t. refused-not-accepted (rw t at known)) (λ t. t) in
@@ -54,10 +55,12 @@ pub refused-early : (p : Problem) (l layout : List ℕ) → Numbered p l → (v 
     judgeBound p layout ≡ verdict.Refused x
 refused-early p l layout numbered v is x e = bad-problem p layout x (sym (judges-problem p l numbered v is) ∙ e)
 
--- A layout with checked numbers: the refusal through 13, or the bytes that it needs.
-pub record Through (l layout : List ℕ) (need : Bytes) : Type 0 where
+-- A layout with checked numbers and its regions, filled in: the refusal through 13, or the bytes that it needs, and the regions known.
+pub record Through (l layout regions : List ℕ) (need : Bytes) : Type 0 where
   pub good : judgeBound (problemOf l) layout ≡ verdict.Accepted
-  pub need-is : need .0 ≡ needOf (problemOf l) layout
+  pub same : regionOf regions ≡ regionOf layout
+  pub need-is : need .0 ≡ needOf (problemOf l) regions
+  pub regions-known : KnownRegions (problemOf l) regions
 
 module _ (l layout : List ℕ) (ok : Checked l) (a : LayoutAnswer) (judged : a ≡ layoutAnswer (judgeLayout (problemOf l) layout) (needOf (problemOf l) layout)) where
   then-layout : judgeBound (problemOf l) layout ≡ judgeLayout (problemOf l) layout
@@ -71,11 +74,25 @@ module _ (l layout : List ℕ) (ok : Checked l) (a : LayoutAnswer) (judged : a �
       same-verdict verdict.Accepted = refl
       same-verdict (verdict.Refused f) = refl
 
-  pub through : (need : Bytes) → a ≡ Fits need → Through l layout need
-  through need e = at (judgeLayout (problemOf l) layout) refl (sym judged ∙ e)
-    where
-      at : (v : Verdict) → judgeLayout (problemOf l) layout ≡ v → layoutAnswer v (needOf (problemOf l) layout) ≡ Fits need → Through l layout need
-      at verdict.Accepted q z =
-          let same : bytes (needOf (problemOf l) layout) ≡ need = cc in
-          record { good = then-layout ∙ q; need-is = ap (λ (b : Bytes). b .0) (sym same) }
-      at (verdict.Refused r) q z = let w : _≡_ {A = ℕ} 0 1 = cc in absurd (omega arith)
+  module _ (regions : List ℕ) (filled : regions ≡ filledIn layout (problemOf l .«function_count»)) where
+    fitting : (need : Bytes) → judgeLayout (problemOf l) layout ≡ verdict.Accepted → bytes (needOf (problemOf l) layout) ≡ need → Through l layout regions need
+    unfolding judgeLayout
+    fitting need accepted is =
+        let same = regions-same (problemOf l) layout regions filled (accepted-both (judgeLength (problemOf l) layout) _ accepted .0) in
+        record {
+          good = then-layout ∙ accepted;
+          same = same;
+          need-is = ap (λ (b : Bytes). b .0) (sym is) ∙ sym (alike-need regions layout same (problemOf l));
+          regions-known =
+              record {
+                listed = lists-all (problemOf l) layout regions filled;
+                known = λ f below. subst (λ (region : ℕ → ℕ). region f < mostRegions) (sym same) (layout-known (problemOf l) layout accepted f below);
+              };
+        }
+
+    pub through : (need : Bytes) → a ≡ Fits need → Through l layout regions need
+    through need e = at (judgeLayout (problemOf l) layout) refl (sym judged ∙ e)
+      where
+        at : (v : Verdict) → judgeLayout (problemOf l) layout ≡ v → layoutAnswer v (needOf (problemOf l) layout) ≡ Fits need → Through l layout regions need
+        at verdict.Accepted q z = let same : bytes (needOf (problemOf l) layout) ≡ need = cc in fitting need q same
+        at (verdict.Refused r) q z = let w : _≡_ {A = ℕ} 0 1 = cc in absurd (omega arith)

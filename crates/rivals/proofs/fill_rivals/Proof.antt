@@ -31,13 +31,13 @@ loop-holds : tie.Need-loop-holds Inv-loop μ-loop
 loop-holds c = (omega arith, few-functions _ (facts _ (entry c .pre .0)), no-rivals _ (entry c .pre .1 .1))
 
 region-of-requires : tie.Need-region-of-requires Inv-loop μ-loop
-region-of-requires c κs = search needs
+region-of-requires c κs = omega (arith, entry (c .before .before) .pre .1 .0 .listed)
 
 abbrev counted : tie.After-region-of Inv-loop μ-loop → tie.After-function-count Inv-loop μ-loop
 counted c = c .before .before .before
 
 known : (c : tie.After-region-of Inv-loop μ-loop) → c .region-of .result < limits.mostRegions
-known c = omega (arith, c .region-of .ensures, entry (counted c) .pre .1 .0 (c .before .before .loop .f) (omega arith))
+known c = omega (arith, c .region-of .ensures, entry (counted c) .pre .1 .0 .known (c .before .before .loop .f) (omega arith))
 
 mul-without : tie.Need-mul-without Inv-loop μ-loop
 mul-without c = omega (arith, known c)

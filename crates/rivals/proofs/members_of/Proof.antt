@@ -29,10 +29,10 @@ loop-holds : tie.Need-loop-holds Inv-loop μ-loop
 loop-holds c = (omega arith, few-functions _ (facts _ (entry c .pre .0)), no-members _)
 
 region-of-requires : tie.Need-region-of-requires Inv-loop μ-loop
-region-of-requires c κs = search needs
+region-of-requires c κs = omega (arith, entry (c .before .before) .pre .1 .listed)
 
 known : (c : tie.After-region-of Inv-loop μ-loop) → c .region-of .result < limits.mostRegions
-known c = omega (arith, c .region-of .ensures, entry (c .before .before .before) .pre .1 (c .before .before .loop .f) (omega arith))
+known c = omega (arith, c .region-of .ensures, entry (c .before .before .before) .pre .1 .known (c .before .before .loop .f) (omega arith))
 
 mul-members : tie.Need-mul-members Inv-loop μ-loop
 mul-members c = omega (arith, known c)

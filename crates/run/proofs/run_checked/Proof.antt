@@ -1,24 +1,47 @@
 -- `run_checked` meets Run's definition on checked numbers: the layout, the walk's length, its entries, and the run.
 use mathlib.Core.Path.{_≡_, sym, ap, _∙_}
-use Rattle.model.specs.declared.Verdict.the-variants.{Accepted}
+use native.Mathlib.Omega.{arith}
+use lib.ListN.{take}
+use lib.Seq.{length-take-le}
+use Rattle.model.specs.declared.Bytes.{Bytes}
 use Rattle.model.specs.Numbers.{problemOf}
-use Rattle.model.specs.Verdicts.{judgeBound}
+use Rattle.model.specs.Layouts.{filledIn}
+use Rattle.lookup.proofs.Places.{facts, few-functions}
 use Rattle.layout.specs.Answers.{layoutVerdict}
-use Rattle.through13.proofs.Through13.{refused-layout, through}
-use Rattle.run.proofs.Stages.{not-begun, too-long, bad-entry, runnable, ran}
+use Rattle.through13.proofs.Through13.{Through, refused-layout, through}
+use Rattle.run.proofs.Stages.{not-begun, too-long, bad-entry, runnable, ran, ran-alike}
 use borrow.Author.Needs.{needs}
 use Rattle.run.proofs.run_checked.Statement.{statement}
 use Rattle.run.proofs.run_checked.Tie as tie
 
 -- The layout is judged, and was accepted.
+abbrev regions : tie.After-judge → tie.After-filled-in
+regions c = c .before .before
+
+abbrev counted : tie.After-filled-in → tie.After-function-count
+counted c = c .before
+
+abbrev begun : tie.After-function-count → tie.Start
+begun c = c .before .before .before
+
 abbrev entry : tie.After-judge → tie.Start
-entry c = c .before .before .before
+entry c = begun (counted (regions c))
+
+-- The regions are those of the layout filled in.
+filled : (c : tie.After-filled-in) →
+    let a = begun (counted c) .args in take (counted c .function-count .result) (c .filled-in .result) ≡ filledIn (a .layout .now) (problemOf (a .l .now) .«function_count»)
+filled c = c .filled-in .ensures .front ∙ ap (filledIn _) (counted c .function-count .ensures)
 
 abbrev layout : tie.After-enum-told → tie.After-judge
 layout c = c .before .before
 
-good : (c : tie.After-enum-told) → let a = entry (layout c) .args in judgeBound (problemOf (a .l .now)) (a .layout .now) ≡ Accepted
-good c = let j = layout c in through _ _ (entry j .pre) _ (j .judge .ensures) _ (c .enum-told .given .1) .good
+abbrev needed : tie.After-enum-told → Bytes
+needed c = c .enum-told .given .0 .0
+
+through-13 : (c : tie.After-enum-told) →
+    let j = layout c in
+    Through (entry j .args .l .now) (entry j .args .layout .now) (take (counted (regions j) .function-count .result) (regions j .filled-in .result)) (needed c)
+through-13 c = let j = layout c in through _ _ (entry j .pre) _ (j .judge .ensures) _ (filled (regions j)) _ (c .enum-told .given .1)
 
 -- The walk is short, and judged.
 abbrev short : tie.After-judge2 → tie.Else1
@@ -31,8 +54,20 @@ fits c = short c .before
 abbrev walk : tie.After-enum-told3 → tie.After-judge2
 walk c = c .before .before
 
+function-count-requires : tie.Need-function-count-requires
+function-count-requires c κs = search needs
+
+filled-in-requires : tie.Need-filled-in-requires
+filled-in-requires c κs = omega (arith, c .function-count .ensures, few-functions _ (facts _ (begun c .pre)))
+
+array-share-prefix-regions : tie.Need-array-share-prefix-regions
+array-share-prefix-regions c = c .filled-in .ensures .room
+
+slice-aggregate-whole : tie.Need-slice-aggregate-whole
+slice-aggregate-whole c = sym (length-take-le _ _ (c .before .filled-in .ensures .room))
+
 judge-requires : tie.Need-judge-requires
-judge-requires c κs = search needs
+judge-requires c κs = (begun (counted (c .before)) .pre, filled (c .before))
 
 enum-told : tie.Need-enum-told
 enum-told c = search needs
@@ -53,7 +88,7 @@ returns c =
     not-begun _ _ _ _ _ (refused-layout _ _ (entry j .pre) _ (j .judge .ensures) _ (sym (told .verdict-of .ensures) ∙ c .refusal-in .ensures))
 
 returns-2 : tie.Need-returns-2
-returns-2 c = too-long _ _ _ _ (good (c .before)) (c .if1 .taken)
+returns-2 c = too-long _ _ _ _ (through-13 (c .before) .good) (c .if1 .taken)
 
 judge-requires-2 : tie.Need-judge-requires-2
 judge-requires-2 c κs = search needs
@@ -71,24 +106,30 @@ returns-3 : tie.Need-returns-3
 returns-3 c =
     let e = c .before in
     let w = e .before .before in
-    bad-entry _ _ _ _ (good (fits w)) (short w .if1 .left) _ (w .judge2 .ensures) _ (c .refusal-in2 .ensures)
+    bad-entry _ _ _ _ (through-13 (fits w) .good) (short w .if1 .left) _ (w .judge2 .ensures) _ (c .refusal-in2 .ensures)
 
 simulate-requires : tie.Need-simulate-requires
 simulate-requires c κs =
     let e = c .before in
     let w = walk e in
-    runnable _ _ _ (entry (layout (fits w)) .pre) (good (fits w)) (short w .if1 .left) _ (w .judge2 .ensures) (e .enum-told3 .given .1)
+    runnable _ _ _ (entry (layout (fits w)) .pre) (through-13 (fits w) .regions-known) (short w .if1 .left) _ (w .judge2 .ensures) (e .enum-told3 .given .1)
 
 returns-4 : tie.Need-returns-4
 returns-4 c =
     let e = c .before .before in
     let w = walk e in
-    ran _ _ _ _ (good (fits w)) (short w .if1 .left) _ (w .judge2 .ensures) (e .enum-told3 .given .1) _ _ (c .simulate .ensures)
+    let t = through-13 (fits w) in
+    ran _ _ _ _ (t .good) (short w .if1 .left) _ (w .judge2 .ensures) (e .enum-told3 .given .1) _ _
+    (ran-alike _ _ _ _ _ _ (t .same) (c .simulate .ensures))
 
 pub run-checked-spec : {M : Type 1} → statement M
 run-checked-spec =
     tie.close
     (tie.spec
+    function-count-requires
+    filled-in-requires
+    array-share-prefix-regions
+    slice-aggregate-whole
     judge-requires
     enum-told
     enum-told-2

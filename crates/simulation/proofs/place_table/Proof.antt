@@ -6,7 +6,7 @@ use borrow.Author.Needs.{needs}
 use Rattle.model.specs.Numbers.{problemOf}
 use Rattle.model.specs.Costs.{functionOf}
 use Rattle.model.specs.Layouts.{regionOf}
-use Rattle.lookup.proofs.Places.{facts, few-vertices}
+use Rattle.lookup.proofs.Places.{facts, few-vertices, function-below}
 use Rattle.model.specs.Places.{mostVertices}
 use Rattle.simulation.specs.Running.{Pairs}
 use Rattle.simulation.proofs.Pairs.{no-pairs, next-pair, all-pairs}
@@ -19,14 +19,21 @@ Inv-loop l layout table₀ count v₀ table v = (count ≤ mostVertices) × Pair
 abbrev μ-loop : tie.MeasureT-loop
 μ-loop l layout table₀ count v₀ table v = count - v
 
+-- The turn enters vertex v.
+abbrev turn : tie.After-function-of Inv-loop μ-loop → tie.At-loop Inv-loop μ-loop
+turn c = c .before .before
+
+abbrev entry : tie.At-loop Inv-loop μ-loop → tie.Start Inv-loop μ-loop
+entry c = c .before .before .before
+
 vertex-count-requires : tie.Need-vertex-count-requires Inv-loop μ-loop
 vertex-count-requires c κs = search needs
 
 loop-holds : tie.Need-loop-holds Inv-loop μ-loop
-loop-holds c = (omega (arith, few-vertices _ (facts _ (c .before .before .pre))), no-pairs _ _)
+loop-holds c = (omega (arith, few-vertices _ (facts _ (c .before .before .pre .0))), no-pairs _ _)
 
 function-of-requires : tie.Need-function-of-requires Inv-loop μ-loop
-function-of-requires c κs = (facts _ (c .before .before .before .before .pre), search needs)
+function-of-requires c κs = (facts _ (c .before .before .before .before .pre .0), search needs)
 
 mul-table : tie.Need-mul-table Inv-loop μ-loop
 mul-table c = search needs
@@ -38,7 +45,10 @@ array-write-table : tie.Need-array-write-table Inv-loop μ-loop
 array-write-table c = search needs
 
 region-of-requires : tie.Need-region-of-requires Inv-loop μ-loop
-region-of-requires c κs = search needs
+region-of-requires c κs =
+    let t = turn c in
+    let from = entry t in
+    omega (arith, c .function-of .ensures, function-below _ (facts _ (from .pre .0)) (t .loop .v) (omega arith), from .pre .1)
 
 mul-table-3 : tie.Need-mul-table-3 Inv-loop μ-loop
 mul-table-3 c = search needs
@@ -60,8 +70,8 @@ loop-less c = search needs
 
 loop-again : tie.Need-loop-again Inv-loop μ-loop
 loop-again c =
-    let t = c .before .before .before in
-    let layout = t .before .before .before .args .layout .now in
+    let t = turn (c .before) in
+    let layout = entry t .args .layout .now in
     let function = c .before .function-of .ensures in
     (search needs, next-pair _ _ _ _ _ (omega arith) function (c .region-of .ensures ∙ ap (regionOf layout) function) _ (t .loop .inv .1))
 

@@ -32,7 +32,7 @@ abbrev turn : tie.After-visit-arg Inv-loop μ-loop → tie.At-loop Inv-loop μ-l
 turn c = inside c .before
 
 place-table-requires : tie.Need-place-table-requires Inv-loop μ-loop
-place-table-requires c κs = c .before .before .before .pre .checked
+place-table-requires c κs = let from = c .before .before .before in (from .pre .checked, from .pre .regions .listed)
 
 cost-table-requires : tie.Need-cost-table-requires Inv-loop μ-loop
 cost-table-requires c κs = c .before .before .before .before .pre .checked
