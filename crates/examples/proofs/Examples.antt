@@ -10,7 +10,7 @@ use Rattle.model.specs.File.{afterCount, afterItem, nextField, belowCount, from
 use Rattle.model.specs.Graph.{lacks, badRange, wrongEdge, noReturn, graphRules}
 use Rattle.model.specs.Walks.{visits}
 use Rattle.model.specs.Costs.{total, largest}
-use Rattle.model.specs.Layouts.{regionOf, largestIn, needOf, judgeLayout}
+use Rattle.model.specs.Layouts.{lowestFree, filledIn, regionOf, largestIn, needOf, judgeLayout}
 use Rattle.model.specs.Interference.{since, occurs}
 use Rattle.model.specs.Charges.{visitCharge, firstLoads, charges}
 use Rattle.model.specs.Runs.{held, cycles, loads}
@@ -29,7 +29,7 @@ use Rattle.examples.proofs.Means.{means}
 computed : all passes marks ≡ true
 unfolding marks problem padded zipWith flatMap boundsAre readsAs passes text decimal digitsOf line refusalLine resultLines any all someFrom everyFrom member fresh handsOn settled setIs greatestIs same limits bases kinds
     jumps counts numbersOf lowestFrom readGroups numberSize afterCount afterItem nextField belowCount fromHeader inRange edgeBefore ascends itemStart
-    checkFrom readFrom lacks badRange wrongEdge noReturn graphRules visits total largest regionOf largestIn needOf judgeLayout since occurs
+    checkFrom readFrom lacks badRange wrongEdge noReturn graphRules visits total largest lowestFree filledIn regionOf largestIn needOf judgeLayout since occurs
     visitCharge firstLoads charges held cycles loads readFile checkProblem judgeProblem judgeBound mayFollow pastBound atLast judgeWalk judgeRun
     contestedTest
 computed = refl

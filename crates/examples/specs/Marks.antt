@@ -23,8 +23,8 @@ marks =
     -- M3: layout 0 0 1: bound 95, run 95 with 6 loads.
     ∷ bounds (P 14) (0 ∷ 0 ∷ 1 ∷ []) 14 4 9 95
     ∷ runs (P 14) (0 ∷ 0 ∷ 1 ∷ []) chain 95 6
-    -- M4: the empty layout needs 8, bound 100.
-    ∷ bounds (P 14) [] 8 6 5 100
+    -- M4, with zeros by 1/14: layout 0 0 0 needs 8, bound 100.
+    ∷ bounds (P 14) (0 ∷ 0 ∷ 0 ∷ []) 8 6 5 100
     -- M5: layout 0 1 2 is refused 13 at 18. With scratchpad 13, M2 is refused 13 at 14.
     ∷ boundRefused (P 14) (0 ∷ 1 ∷ 2 ∷ []) 13 18
     ∷ boundRefused (P 13) (0 ∷ 1 ∷ 1 ∷ []) 13 14
@@ -33,13 +33,13 @@ marks =
     ∷ runs Q (0 ∷ 1 ∷ []) (0 ∷ 2 ∷ 3 ∷ []) 48 2
     -- M7: R, layout 0 1: bound 39.
     ∷ bounds (R 4) (0 ∷ 1 ∷ []) 2 0 8 39
-    -- M8: the empty layout: bound 65, and its longest run takes 60.
-    ∷ bounds (R 4) [] 1 2 5 65
-    ∷ longestRun (R 4) [] 60
+    -- M8, with zeros by 1/14: layout 0 0: bound 65, and its longest run takes 60.
+    ∷ bounds (R 4) (0 ∷ 0 ∷ []) 1 2 5 65
+    ∷ longestRun (R 4) (0 ∷ 0 ∷ []) 60
     -- M9: a fifth visit to vertex 1 is refused 16 at position 9. With bound 1, M7 becomes 12 and M8 14.
     ∷ runRefused (R 4) (0 ∷ 1 ∷ []) (0 ∷ 1 ∷ 2 ∷ 1 ∷ 2 ∷ 1 ∷ 2 ∷ 1 ∷ 2 ∷ 1 ∷ 3 ∷ []) 16 9
     ∷ bounds (R 1) (0 ∷ 1 ∷ []) 2 0 8 12
-    ∷ bounds (R 1) [] 1 2 5 14
+    ∷ bounds (R 1) (0 ∷ 0 ∷ []) 1 2 5 14
     -- M10: a whole file. For it and an empty layout `marksheet` prints `need 8`, `charged 0`, `first 5`, `bound 15`, one a line. A refusal prints
     -- `refused 1 at 0`, here for empty input.
     ∷ reads whole single

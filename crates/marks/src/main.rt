@@ -1,18 +1,19 @@
-// M1 to M9 of document 01, and a problem where splitting a region raises the bound: what Interference, Bound and Run give. M1 is part of Table I of
-// document 003, which is printed whole.
+// M1 to M9 of document 01, a layout that leaves functions off, and a problem where splitting a region raises the bound: what Interference, Bound and Run
+// give. M1 is part of Table I of document 003, which is printed whole.
 mod sets;
 mod show;
 
 use model::Problem;
 use model::limits;
+use prints::text;
 
 fn bound(name: &[u8], problem: Problem, layout: &[u8]) {
-    prints::text(name);
+    text(name);
     show::bounded(bound::bound(problem, layout));
 }
 
 fn run(name: &[u8], problem: Problem, layout: &[u8], walk: &[u32]) {
-    prints::text(name);
+    text(name);
     let mut held = [0u8; limits::MOST_REGIONS];
     show::ran(run::run(problem, layout, walk, &mut held));
 }
@@ -35,7 +36,8 @@ fn marks_of_p() {
         &third,
         &walk,
     );
-    bound(b"M4 P, empty layout: ", samples::p(14), b"");
+    let shared = [0u8, 0, 0];
+    bound(b"M4 P, layout 0 0 0: ", samples::p(14), &shared);
     let apart = [0u8, 1, 2];
     bound(b"M5 P, layout 0 1 2: ", samples::p(14), &apart);
     bound(
@@ -59,14 +61,15 @@ fn mark_of_q() {
 
 fn marks_of_r() {
     let layout = [0u8, 1];
+    let shared = [0u8, 0];
     let longest = [0u32, 1, 2, 1, 2, 1, 2, 1, 3];
     let fifth = [0u32, 1, 2, 1, 2, 1, 2, 1, 2, 1, 3];
     bound(b"M7 R, layout 0 1: ", samples::r(4), &layout);
-    bound(b"M8 R, empty layout: ", samples::r(4), b"");
+    bound(b"M8 R, layout 0 0: ", samples::r(4), &shared);
     run(
-        b"M8 R, empty layout, four iterations: ",
+        b"M8 R, layout 0 0, four iterations: ",
         samples::r(4),
-        b"",
+        &shared,
         &longest,
     );
     run(
@@ -76,7 +79,21 @@ fn marks_of_r() {
         &fifth,
     );
     bound(b"M9 R with bound 1, layout 0 1: ", samples::r(1), &layout);
-    bound(b"M9 R with bound 1, empty layout: ", samples::r(1), b"");
+    bound(b"M9 R with bound 1, layout 0 0: ", samples::r(1), &shared);
+}
+
+// No function is listed, and each has a region of its own.
+fn left_off() {
+    let walk = [0u32, 1, 2, 3, 4, 5, 6];
+    let problem = samples::p(18);
+    bound(b"P with scratchpad 18, empty layout: ", problem, b"");
+    text(b"P with scratchpad 18, empty layout, the chain: ");
+    let mut held = [0u8; limits::MOST_REGIONS];
+    show::ran(run::run(problem, b"", &walk, &mut held));
+    show::held(b"held in region 0: ", held[0]);
+    show::held(b", 1: ", held[1]);
+    show::held(b", 2: ", held[2]);
+    text(b"\n");
 }
 
 fn splitting() {
@@ -95,5 +112,6 @@ fn main() {
     marks_of_p();
     mark_of_q();
     marks_of_r();
+    left_off();
     splitting();
 }

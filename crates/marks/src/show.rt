@@ -36,3 +36,8 @@ pub fn ran(answer: RunAnswer) {
     }
     text(b"\n");
 }
+
+// The function that a region holds.
+pub fn held(label: &[u8], function: u8) {
+    number(label, function as u64);
+}
