@@ -1,4 +1,4 @@
-//! The worked examples of document 01.
+//! The worked examples of document 01, and one more.
 
 use crate::file::encode;
 use crate::problem::*;
@@ -30,6 +30,13 @@ pub fn q() -> Problem {
 pub fn r() -> Problem {
     let vertices = [(0, 1), (0, 2), (1, 7), (0, 1)];
     problem(2, &[(1, 5), (1, 3)], &vertices, &[(0, 1), (1, 2), (1, 3), (2, 1)], &[(1, 2, 4)])
+}
+
+/// S, where splitting a region raises the bound: function 1 lies on the short branch alone, and with a region of its own it is charged on
+/// every walk. Not a worked example of document 01.
+pub fn s() -> Problem {
+    let vertices = [(0, 10), (1, 1), (2, 100), (2, 10)];
+    problem(3, &[(1, 5), (1, 3), (1, 4)], &vertices, &[(0, 1), (0, 2), (1, 3), (2, 3)], &[])
 }
 
 /// M10: a whole file of one vertex.

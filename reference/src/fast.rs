@@ -319,20 +319,32 @@ fn flow<const WIDTH: usize>(flat: &Flat, words: &mut [u32]) {
     }
 }
 
+/// The region of each function, where the layout lists known regions only: the free ones go to the functions beyond its end, the lowest
+/// first. With no more functions than regions there is always one left.
+fn filled(layout: &[u8], functions: usize) -> [u8; MOST_FUNCTIONS] {
+    let mut region = [0u8; MOST_FUNCTIONS];
+    region[..layout.len()].copy_from_slice(layout);
+    let mut free = layout.iter().fold(u32::MAX, |free, &listed| free & !(1 << listed));
+    for place in &mut region[layout.len()..functions] {
+        *place = free.trailing_zeros() as u8;
+        free &= free - 1;
+    }
+    region
+}
+
 /// A layout judged through 13: the region of each function, the functions of each region, and the bytes needed.
 fn judge_layout(flat: &Flat, layout: &[u8]) -> Result<([u8; MOST_FUNCTIONS], [u32; REGIONS], u64), Refusal> {
     if layout.len() > flat.functions {
         return Err(Refusal::at(11, flat.functions));
     }
-    let mut region = [0u8; MOST_FUNCTIONS];
-    region[..layout.len()].copy_from_slice(layout);
+    if let Some(function) = layout.iter().position(|&region| usize::from(region) >= REGIONS) {
+        return Err(Refusal::at(12, function));
+    }
+    let region = filled(layout, flat.functions);
     let mut members = [0u32; REGIONS];
     let mut largest = [0u32; REGIONS];
     for (function, (&region, &size)) in region.iter().zip(&flat.size).enumerate().take(flat.functions) {
-        let region = usize::from(region);
-        if region >= REGIONS {
-            return Err(Refusal::at(12, function));
-        }
+        let region = usize::from(region) % REGIONS;
         members[region] |= 1 << function;
         largest[region] = largest[region].max(size);
     }

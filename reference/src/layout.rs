@@ -17,7 +17,24 @@ pub struct Bound {
     pub bound: u64,
 }
 
-/// Judges a layout through 13: the region of each function, and the bytes needed.
+/// The filled-in layout: the region of each function. Listed functions have what the layout lists; the regions that none of these has
+/// are dealt out to the others in ascending order.
+pub fn filled(layout: &[u8], functions: usize) -> Vec<u8> {
+    let free = (0..REGIONS as u8).filter(|region| !layout.contains(region));
+    layout.iter().copied().chain(free).take(functions).collect()
+}
+
+/// As [`filled`], in turn: each function beyond the layout's end gets the lowest region that no earlier function has.
+pub fn filled_in_turn(layout: &[u8], functions: usize) -> Vec<u8> {
+    let mut regions = layout.to_vec();
+    while regions.len() < functions {
+        let lowest = (0..REGIONS as u8).find(|region| !regions.contains(region));
+        regions.push(lowest.expect("a problem has no more functions than there are regions"));
+    }
+    regions
+}
+
+/// Judges a layout through 13: the region of each function, and the bytes needed by the filled-in layout.
 pub fn check(problem: &Problem, layout: &[u8]) -> Result<(Vec<u8>, u64), Refusal> {
     if layout.len() > problem.functions.len() {
         return Err(Refusal::at(11, problem.functions.len()));
@@ -25,8 +42,7 @@ pub fn check(problem: &Problem, layout: &[u8]) -> Result<(Vec<u8>, u64), Refusal
     if let Some(function) = layout.iter().position(|&region| usize::from(region) >= REGIONS) {
         return Err(Refusal::at(12, function));
     }
-    let mut regions = layout.to_vec();
-    regions.resize(problem.functions.len(), 0);
+    let regions = filled(layout, problem.functions.len());
     let need = need(problem, &regions);
     if need > u64::from(problem.scratchpad) {
         return Err(Refusal { number: 13, place: need });

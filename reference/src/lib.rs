@@ -7,6 +7,7 @@
 //! |---|---|---|
 //! | interference | [`interference::by_search`]: a search backwards for each vertex and function | [`interference::by_states`]: a search over what walks have visited |
 //! | greatest visit charges | [`longest::by_contraction`]: loops become edges, the innermost first | [`longest::by_states`]: the graph unfolded by its visit counts; [`longest::lawful_walks`]: every lawful walk |
+//! | the filled-in layout | [`layout::filled`]: the free regions are dealt out | [`layout::filled_in_turn`]: each function looks at all before it |
 //! | a run | [`run::simulate`]: one pass | [`run::simulate_by_looking_back`]: each visit looks at all before it |
 //!
 //! [`fast`] holds the quickest honest methods known to us; the benchmark measures the library against these.

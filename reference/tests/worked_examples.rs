@@ -1,6 +1,6 @@
-//! M1 to M10 of document 01.
+//! M1 to M10 of document 01, and layouts that leave functions off.
 
-use reference::examples::{p, q, r, M10};
+use reference::examples::{p, q, r, s, M10};
 use reference::layout::{check, contested, visit_charges};
 use reference::longest::{by_contraction, by_states, lawful_walks};
 use reference::{bound, file, interference, read, run, write, Bound, Problem, Refusal};
@@ -136,6 +136,47 @@ fn m10_a_whole_file() {
     let mut out = [0; 10];
     assert_eq!(write(&M10, &mut out), Ok(10));
     assert_eq!(out, M10);
+}
+
+#[test]
+fn p_with_functions_left_off() {
+    let file = file_of(&p());
+    for short in [&[][..], &[0], &[1], &[0, 1]] {
+        assert_eq!(bound(&file, short), Err(refused(13, 18)), "{short:?}");
+        assert_eq!(run(&file, short, &CHAIN), Err(refused(13, 18)), "{short:?}");
+    }
+    assert_eq!(bound(&file, &[0, 32]), Err(refused(12, 1)));
+    assert_eq!(bound_of(&p(), &[0, 0]), Bound { need: 14, contested: 4, first_loads: 9, bound: 95 });
+    assert_eq!(bound_by_all_walks(&p(), &[0, 0]), 95);
+    assert_eq!(bound_of(&p(), &[0, 0, 0]), Bound { need: 8, contested: 6, first_loads: 5, bound: 100 });
+    // functions with no vertex are filled in too
+    let first_vertex_alone = Problem { vertices: p().vertices[..1].to_vec(), edges: vec![], ..p() };
+    assert_eq!(bound(&file_of(&first_vertex_alone), &[0]), Err(refused(13, 18)));
+}
+
+#[test]
+fn p_with_room_for_all_and_the_empty_layout() {
+    let roomy = Problem { scratchpad: 18, ..p() };
+    assert_eq!(bound_of(&roomy, &[]), Bound { need: 18, contested: 0, first_loads: 12, bound: 82 });
+    assert_eq!(bound_by_all_walks(&roomy, &[]), 82);
+    let run = run(&file_of(&roomy), &[], &CHAIN).expect("lawful");
+    assert_eq!((run.cycles, run.loads), (82, 3));
+    assert_eq!(run.held[..4], [0, 1, 2, 255]);
+}
+
+#[test]
+fn r_with_the_empty_layout() {
+    assert_eq!(bound_of(&r(), &[]), Bound { need: 2, contested: 0, first_loads: 8, bound: 39 });
+    assert_eq!(bound_by_all_walks(&r(), &[]), 39);
+    assert_eq!(bound_of(&r(), &[0, 0]), Bound { need: 1, contested: 2, first_loads: 5, bound: 65 });
+}
+
+#[test]
+fn s_with_functions_left_off() {
+    assert_eq!(bound_of(&s(), &[0, 0]), Bound { need: 2, contested: 1, first_loads: 9, bound: 129 });
+    assert_eq!(bound_by_all_walks(&s(), &[0, 0]), 129);
+    assert_eq!(bound_of(&s(), &[]), Bound { need: 3, contested: 0, first_loads: 12, bound: 132 });
+    assert_eq!(bound_by_all_walks(&s(), &[]), 132);
 }
 
 #[test]

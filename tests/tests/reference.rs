@@ -8,7 +8,8 @@ use examiner_tests::damage::*;
 use examiner_tests::problems::{lawful, longest, with_total, Plan};
 use examiner_tests::random::Random;
 use examiner_tests::{effort, layouts, walks};
-use reference::layout::{check, cold, contested, first_loads, visit_charges};
+use reference::examples::p;
+use reference::layout::{check, cold, contested, filled, filled_in_turn, first_loads, visit_charges};
 use reference::longest::{by_contraction, by_states, lawful_walks};
 use reference::problem::*;
 use reference::run::{check_by_looking_back, simulate, simulate_by_looking_back};
@@ -73,6 +74,92 @@ fn generated_problems_are_lawful() {
     for (what, times) in seen {
         println!("{times:6}  {what}");
         assert!(times > 0, "no problem had {what}");
+    }
+}
+
+/// A vertex for each function, one after the other: what a walk through all leaves in the regions tells the layout.
+fn one_vertex_a_function(functions: u32) -> Problem {
+    Problem {
+        scratchpad: MOST_SIZE,
+        functions: (1..=functions).map(|size| Function { size, load: 1 }).collect(),
+        vertices: (0..functions).map(|function| Vertex { function, cost: 1 }).collect(),
+        edges: (1..functions).map(|to| Edge { from: to - 1, to }).collect(),
+        loops: vec![],
+    }
+}
+
+/// Both implementations fill in a layout to these regions: the bytes needed and what a walk leaves are as with these listed.
+fn fills_in_to(layout: &[u8], regions: &[u8]) {
+    assert_eq!(filled(layout, regions.len()), regions, "{layout:?}");
+    assert_eq!(filled_in_turn(layout, regions.len()), regions, "{layout:?}");
+    let functions = regions.len() as u32;
+    let problem = one_vertex_a_function(functions);
+    let file = file_of(&problem);
+    let walk: Vec<u32> = (0..functions).collect();
+    let need = reference::layout::need(&problem, regions);
+    let run = simulate(&problem, regions, &walk);
+    assert_eq!(reference::bound(&file, layout).map(|bound| bound.need), Ok(need));
+    assert_eq!(fast::bound(&file, layout), reference::bound(&file, layout), "{layout:?}");
+    assert_eq!(reference::run(&file, layout, &walk), Ok(run.clone()));
+    assert_eq!(fast::run(&file, layout, &walk), Ok(run), "{layout:?}");
+}
+
+#[test]
+fn functions_left_off_a_layout_get_the_lowest_regions_that_are_free() {
+    let all: Vec<u8> = (0..32).collect();
+    for functions in 1..=32 {
+        fills_in_to(&[], &all[..functions]);
+    }
+    fills_in_to(&[2, 0, 2], &[2, 0, 2, 1, 3, 4]);
+    fills_in_to(&[1], &[1, 0, 2]);
+    fills_in_to(&[31], &[31, 0, 1]);
+    fills_in_to(&[0, 0], &[0, 0, 1]);
+    fills_in_to(&[0, 1, 2], &[0, 1, 2]);
+    fills_in_to(&[31], &[&[31], &all[..31]].concat());
+    fills_in_to(&[1; 31], &[&[1; 31][..], &[0]].concat());
+    fills_in_to(&[0; 31], &[&[0; 31][..], &[1]].concat());
+    // every region but one is listed
+    for left in 0..32 {
+        let listed: Vec<u8> = all.iter().rev().copied().filter(|&region| region != left).collect();
+        fills_in_to(&listed, &[&listed[..], &[left]].concat());
+    }
+}
+
+#[test]
+fn layouts_filled_in_by_dealing_out_and_in_turn() {
+    let regions = 0..REGIONS as u8;
+    for (first, second) in regions.clone().flat_map(|first| regions.clone().map(move |second| (first, second))) {
+        for third in regions.clone() {
+            assert_eq!(filled(&[first, second, third], 6), filled_in_turn(&[first, second, third], 6));
+        }
+        fills_in_to(&[first, second], &filled_in_turn(&[first, second], 32));
+    }
+    let mut random = Random::seeded(8);
+    for _ in 0..4_000 * effort() {
+        let functions = random.count(1..=MOST_FUNCTIONS);
+        let layout = layouts::lawful(&mut random, functions);
+        fills_in_to(&layout, &filled_in_turn(&layout, functions));
+    }
+}
+
+#[test]
+fn a_layout_is_judged_by_its_length_then_by_what_it_lists_then_filled_in() {
+    let file = file_of(&p());
+    let cases = [
+        (&[0, 0, 0, 99][..], 11, 3),
+        (&[32], 12, 0),
+        (&[0, 32], 12, 1),
+        (&[255, 255], 12, 0),
+        (&[], 13, 18),
+        (&[1], 13, 18),
+        (&[31, 0], 13, 18),
+    ];
+    for (layout, number, place) in cases {
+        let refusal = Refusal { number, place };
+        assert_eq!(reference::bound(&file, layout), Err(refusal), "{layout:?}");
+        assert_eq!(fast::bound(&file, layout), Err(refusal), "{layout:?}");
+        assert_eq!(reference::run(&file, layout, &[9]), Err(refusal), "{layout:?}");
+        assert_eq!(fast::run(&file, layout, &[9]), Err(refusal), "{layout:?}");
     }
 }
 
