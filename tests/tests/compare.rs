@@ -19,6 +19,12 @@ use examiner_tests::{effort, layouts, walks};
 use reference::examples::{p, q, r, M10};
 use reference::problem::*;
 
+const SHORT: &str = "an accepted layout that is short";
+const SHORT_WITH_GAP: &str = "an accepted layout that is short, with a gap below a listed region";
+const WALK_WITH_GAP: &str = "a lawful walk under a short layout with a gap below a listed region";
+/// How often some cases are met at least: a few layouts would not do to tell how they are filled in.
+const LEAST: [(&str, usize); 3] = [(SHORT, 10_000), (SHORT_WITH_GAP, 5_000), (WALK_WITH_GAP, 1_000)];
+
 /// Calls both implementations and counts.
 struct Comparison {
     random: Random,
@@ -176,8 +182,24 @@ impl Comparison {
             self.saw("no contested vertex", bound.contested == 0);
             self.saw("first loads", bound.first_loads > 0);
             self.saw("a bound above 2^53", bound.bound > 1 << 53);
+            self.accepted(file, layout, bound.need);
         }
         bound.ok().map(|bound| bound.bound)
+    }
+
+    /// Counts the accepted layouts that had to be filled in.
+    fn accepted(&mut self, file: &[u8], layout: &[u8], need: u64) {
+        let problem = reference::read(file).expect("accepted");
+        let short = layout.len() < problem.functions.len();
+        self.saw(SHORT, short);
+        self.saw(SHORT_WITH_GAP, short && layouts::has_gap(layout));
+        self.saw("a short layout that takes the whole scratchpad", short && need == u64::from(problem.scratchpad));
+    }
+
+    /// Counts the lawful walks whose layout had to be filled in below what it lists.
+    fn walked(&mut self, file: &[u8], layout: &[u8]) {
+        let functions = reference::read(file).expect("accepted").functions.len();
+        self.saw(WALK_WITH_GAP, layout.len() < functions && layouts::has_gap(layout));
     }
 
     fn run(&mut self, file: &[u8], layout: &[u8], walk: &[u32]) -> Option<u64> {
@@ -212,6 +234,9 @@ impl Comparison {
         assert_eq!(wrapped.map(|w| (w.cycles, w.loads, held_after(w.held))), run.clone().map(|r| (r.cycles, r.loads, r.held)));
         assert_eq!((lent, lent_layout, lent_walk), before);
         self.saw("a lawful walk with a load of cost 0", run.as_ref().is_ok_and(|run| run.loads > 0 && run.cycles == 0));
+        if run.is_ok() {
+            self.walked(file, layout);
+        }
         run.ok().map(|run| run.cycles)
     }
 
@@ -599,7 +624,8 @@ fn long_walks(c: &mut Comparison) {
     let file = file_of(&problem);
     let walk = walks::of_length(&mut c.random, &problem, MOST_ENTRIES).expect("there are such walks");
     let shared = [0, 0, 0];
-    for layout in [&[0, 1, 2][..], &shared, &[0, 0, 1]] {
+    // the last is filled in to 0 0 1
+    for layout in [&[0, 1, 2][..], &shared, &[0, 0]] {
         assert!(reference::run(&file, layout, &walk).is_ok());
         c.saw("a lawful walk of 1,000,000 entries", true);
         c.layout_and_walk(&file, layout, &walk);
@@ -719,6 +745,9 @@ fn main() {
     }
     for (what, times) in &comparison.seen {
         assert!(*times > 0, "there was never {what}");
+    }
+    for (what, least) in LEAST {
+        assert!(comparison.seen[what] >= least, "there was too seldom {what}");
     }
     println!("\n{} calls agree; every refusal from 1 to 17 was met", comparison.calls.values().sum::<usize>());
 }

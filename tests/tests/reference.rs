@@ -135,11 +135,15 @@ fn layouts_filled_in_by_dealing_out_and_in_turn() {
         fills_in_to(&[first, second], &filled_in_turn(&[first, second], 32));
     }
     let mut random = Random::seeded(8);
+    let mut with_gap = 0;
     for _ in 0..4_000 * effort() {
         let functions = random.count(1..=MOST_FUNCTIONS);
         let layout = layouts::lawful(&mut random, functions);
         fills_in_to(&layout, &filled_in_turn(&layout, functions));
+        with_gap += usize::from(layout.len() < functions && layouts::has_gap(&layout));
     }
+    println!("{with_gap} short layouts with a gap below a listed region");
+    assert!(with_gap > 500);
 }
 
 #[test]
