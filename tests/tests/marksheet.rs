@@ -102,6 +102,9 @@ const OF_P: &str = "need 14\ncharged 2\nfirst 8\nbound 85\n";
 fn a_missing_layout_is_an_empty_one() {
     prints(&Desk::new("missing").mark(&M10), OF_M10);
     prints(&Desk::new("empty").with_layout(&[]).mark(&M10), OF_M10);
+    let file = file_of(&p());
+    prints(&Desk::new("missing-p").mark(&file), "refused 13 at 18\n");
+    prints(&Desk::new("empty-p").with_layout(&[]).mark(&file), "refused 13 at 18\n");
 }
 
 #[test]
@@ -109,6 +112,7 @@ fn a_layout_file_is_priced_or_refused() {
     let file = file_of(&p());
     prints(&Desk::new("p").with_layout(&[0, 1, 1]).mark(&file), OF_P);
     prints(&Desk::new("apart").with_layout(&[0, 1, 2]).mark(&file), "refused 13 at 18\n");
+    prints(&Desk::new("short").with_layout(&[0, 0]).mark(&file), "need 14\ncharged 4\nfirst 9\nbound 95\n");
     prints(&Desk::new("unknown").with_layout(&[0, 32]).mark(&file), "refused 12 at 1\n");
     prints(&Desk::new("longer").with_layout(&[0, 1, 1, 0]).mark(&file), "refused 11 at 3\n");
     prints(&Desk::new("long").with_layout(&[0; 5_000]).mark(&file), "refused 11 at 3\n");

@@ -1,4 +1,5 @@
-//! M1 to M10 of document 01, asked of the library through the safe wrapper, and the wrapper's own forms.
+//! M1 to M10 of document 01 and layouts that leave functions off, asked of the library through the safe wrapper, and the wrapper's own
+//! forms.
 
 use examiner::{Edge, Fields, Function, Loop, Refusal, RefusalKind, Vertex};
 use reference::examples::M10;
@@ -32,6 +33,12 @@ fn q() -> Vec<u8> {
 
 fn r(bound: u32) -> Vec<u8> {
     file(&fields(2, &[(1, 5), (1, 3)], &[(0, 1), (0, 2), (1, 7), (0, 1)], &[(0, 1), (1, 2), (1, 3), (2, 1)], &[(1, 2, bound)]))
+}
+
+/// Splitting a region raises its bound.
+fn s() -> Vec<u8> {
+    let vertices = [(0, 10), (1, 1), (2, 100), (2, 10)];
+    file(&fields(3, &[(1, 5), (1, 3), (1, 4)], &vertices, &[(0, 1), (0, 2), (1, 3), (2, 3)], &[]))
 }
 
 #[test]
@@ -120,6 +127,24 @@ mod bounds {
     fn m10_a_whole_file() {
         assert_eq!(bound(&M10, &[]), Ok(Bound { need: 8, contested: 0, first_loads: 5, bound: 15 }));
     }
+
+    #[test]
+    fn p_with_functions_left_off() {
+        for short in [&[][..], &[0], &[1], &[0, 1]] {
+            assert_eq!(bound(&p(14), short), Err(Refusal { number: RefusalKind::ScratchpadTooSmall, place: 18 }), "{short:?}");
+        }
+        assert_eq!(bound(&p(14), &[0, 32]), Err(Refusal { number: RefusalKind::UnknownRegion, place: 1 }));
+        assert_eq!(bound(&p(18), &[]), Ok(Bound { need: 18, contested: 0, first_loads: 12, bound: 82 }));
+        assert_eq!(bound(&p(14), &[0, 0]), Ok(Bound { need: 14, contested: 4, first_loads: 9, bound: 95 }));
+        assert_eq!(bound(&p(14), &[0, 0, 0]), Ok(Bound { need: 8, contested: 6, first_loads: 5, bound: 100 }));
+    }
+
+    #[test]
+    fn r_and_s_with_functions_left_off() {
+        assert_eq!(bound(&r(4), &[]), Ok(Bound { need: 2, contested: 0, first_loads: 8, bound: 39 }));
+        assert_eq!(bound(&s(), &[0, 0]), Ok(Bound { need: 2, contested: 1, first_loads: 9, bound: 129 }));
+        assert_eq!(bound(&s(), &[]), Ok(Bound { need: 3, contested: 0, first_loads: 12, bound: 132 }));
+    }
 }
 
 mod runs {
@@ -136,6 +161,31 @@ mod runs {
         assert!(first.held[3..].iter().all(Option::is_none));
         let second = run(&p(14), &[0, 0, 1], &CHAIN).expect("lawful");
         assert_eq!((second.cycles, second.loads), (95, 6));
+    }
+
+    #[test]
+    fn p_with_functions_left_off() {
+        let apart = run(&p(18), &[], &CHAIN).expect("lawful");
+        assert_eq!((apart.cycles, apart.loads), (82, 3));
+        assert_eq!(apart.held[..4], [Some(0), Some(1), Some(2), None]);
+        assert!(apart.held[4..].iter().all(Option::is_none));
+        assert_eq!(run(&p(14), &[], &CHAIN), Err(Refusal { number: RefusalKind::ScratchpadTooSmall, place: 18 }));
+        assert_eq!(run(&p(14), &[0, 0], &CHAIN), run(&p(14), &[0, 0, 1], &CHAIN));
+    }
+
+    /// A vertex for each of six functions, one after the other.
+    #[test]
+    fn what_a_walk_leaves_shows_the_filled_in_layout() {
+        let steps = [(0, 1), (1, 2), (2, 3), (3, 4), (4, 5)];
+        let six = file(&fields(6, &[(1, 1); 6], &[0, 1, 2, 3, 4, 5].map(|function| (function, 1)), &steps, &[]));
+        let held = |layout: &[u8]| run(&six, layout, &[0, 1, 2, 3, 4, 5]).expect("lawful").held.map(|function| function.unwrap_or(9));
+        // 2 0 2 1 3 4
+        assert_eq!(held(&[2, 0, 2])[..6], [1, 3, 2, 4, 5, 9]);
+        // 1 0 2 3 4 5
+        assert_eq!(held(&[1])[..6], [1, 0, 2, 3, 4, 5]);
+        // 31 0 1 2 3 4
+        assert_eq!(held(&[31])[..6], [1, 2, 3, 4, 5, 9]);
+        assert_eq!(held(&[31])[31], 0);
     }
 
     #[test]
