@@ -28,26 +28,32 @@ fn time(calls: usize, call: &mut dyn FnMut()) -> f64 {
     started.elapsed().as_secs_f64() / calls as f64
 }
 
+/// The times of one call of each in every turn, in seconds.
+fn turns(one: &mut dyn FnMut(), other: &mut dyn FnMut()) -> Vec<(f64, f64)> {
+    let calls = |call: &mut dyn FnMut()| (TURN.as_secs_f64() / time(3, call).max(1e-9)).ceil() as usize;
+    let (calls_of_one, calls_of_other) = (calls(one), calls(other));
+    let mut random = Random::seeded(1);
+    let mut turn = || {
+        // either goes first, at random
+        if random.percent(50) {
+            return (time(calls_of_one, one), time(calls_of_other, other));
+        }
+        let other = time(calls_of_other, other);
+        (time(calls_of_one, one), other)
+    };
+    (0..TURNS).map(|_| turn()).collect()
+}
+
+fn median(turns: &[(f64, f64)], of: fn(&(f64, f64)) -> f64) -> f64 {
+    let mut numbers: Vec<f64> = turns.iter().map(of).collect();
+    numbers.sort_by(f64::total_cmp);
+    numbers[TURNS / 2]
+}
+
 /// The median times of one call of each, in seconds.
 fn measure(library: &mut dyn FnMut(), reference: &mut dyn FnMut()) -> (f64, f64) {
-    let calls = |call: &mut dyn FnMut()| (TURN.as_secs_f64() / time(3, call).max(1e-9)).ceil() as usize;
-    let (library_calls, reference_calls) = (calls(library), calls(reference));
-    let mut random = Random::seeded(1);
-    let mut times = Vec::new();
-    for _ in 0..TURNS {
-        // either goes first, at random
-        times.push(if random.percent(50) {
-            (time(library_calls, library), time(reference_calls, reference))
-        } else {
-            let reference = time(reference_calls, reference);
-            (time(library_calls, library), reference)
-        });
-    }
-    let mut median = |of: fn(&(f64, f64)) -> f64| {
-        times.sort_by(|a, b| of(a).total_cmp(&of(b)));
-        of(&times[TURNS / 2])
-    };
-    (median(|pair| pair.0), median(|pair| pair.1))
+    let turns = turns(library, reference);
+    (median(&turns, |turn| turn.0), median(&turns, |turn| turn.1))
 }
 
 fn micros(seconds: f64) -> String {
@@ -55,11 +61,19 @@ fn micros(seconds: f64) -> String {
 }
 
 /// A problem with its file and a layout that Bound accepts.
+#[derive(Clone)]
 struct Subject {
     name: String,
     problem: Problem,
     file: Vec<u8>,
     layout: Vec<u8>,
+}
+
+impl Subject {
+    /// The same problem under another layout.
+    fn under(&self, layout: Vec<u8>) -> Subject {
+        Subject { layout, ..self.clone() }
+    }
 }
 
 /// The first lawful problem of a plan, by ascending seeds, with an accepted layout of eight regions and what else is asked of it.
@@ -126,6 +140,13 @@ fn bound(subject: &Subject) -> Times {
     })
 }
 
+/// What part of the library's time for Bound goes into filling in a layout, by two layouts of one problem that differ in that alone. It is
+/// small beside the spread of the times, so each turn is taken by itself; it may come out negative.
+fn filling(short: &Subject, listed: &Subject) -> f64 {
+    let call = |subject: &Subject| _ = black_box(examiner::bound(black_box(&subject.file), black_box(&subject.layout)));
+    median(&turns(&mut || call(short), &mut || call(listed)), |(filled, unfilled)| (filled - unfilled) / filled)
+}
+
 fn run(subject: &Subject) -> Times {
     let (problem, walk) = long_walk(&subject.problem).expect("the problem was chosen for it");
     let file = file_of(&problem);
@@ -139,6 +160,15 @@ fn run(subject: &Subject) -> Times {
 fn row(operation: &str, subject: &Subject, (library, reference): Times, note: impl Fn(f64, f64) -> String) {
     let (ratio, note) = (library / reference, note(library, reference));
     println!("| {operation} | {} | {} | {} | {ratio:.2} | {note} |", subject.name, micros(library), micros(reference));
+}
+
+/// Bound where every function has a region of its own, which the layout lists or which is filled in.
+fn rows_of_functions_apart(subject: &Subject) {
+    let listed = subject.under((0..MOST_FUNCTIONS as u8).collect());
+    let empty = subject.under(vec![]);
+    row("Bound", &listed, bound(&listed), |_, _| "32 functions in 32 regions, all listed".to_string());
+    let filling = 100.0 * filling(&empty, &listed);
+    row("Bound", &empty, bound(&empty), |_, _| format!("32 functions, the empty layout: {filling:+.1} % by filling"));
 }
 
 fn cell((library, reference): Times) -> String {
@@ -171,6 +201,9 @@ fn main() {
     }
     for subject in &subjects {
         row("Bound", subject, bound(subject), |_, _| "32 functions in 8 regions".to_string());
+    }
+    for subject in &subjects {
+        rows_of_functions_apart(subject);
     }
     for subject in &subjects[..2] {
         row("Run", subject, run(subject), |library, reference| {
