@@ -114,8 +114,8 @@ uint32_t examiner_write(const uint8_t *file, size_t file_length, uint8_t *out, s
 uint32_t examiner_interference(const uint8_t *file, size_t file_length, uint32_t *words, size_t words_length, uint64_t *answer);
 
 /*
- * Bound: the worst-case time under a layout. layout[f] is the region of function f, 0 to 31; a layout shorter than the function list
- * puts the rest in region 0.
+ * Bound: the worst-case time under a layout. layout[f] is the region of function f, 0 to 31. A layout may be shorter than the function
+ * list: each function beyond its end gets, in turn, the lowest region that no earlier function has.
  *
  * A vertex is contested if the interference set of it and its function has a function in its function's region. Its visit charge is
  * its own cost, plus the function's load cost if contested. A function is cold if one of its uncontested vertices can be reached by a

@@ -128,7 +128,8 @@ pub fn interference(file: &[u8], words: &mut [u32]) -> Result<usize, Refusal> {
     Ok(judge(number, answer)?[0] as usize)
 }
 
-/// Prices a layout: `layout[f]` is the region of function f, 0 to 31. A layout shorter than the function list puts the rest in region 0.
+/// Prices a layout: `layout[f]` is the region of function f, 0 to 31. A layout may be shorter than the function list: each function beyond
+/// its end gets, in turn, the lowest region that no earlier function has.
 ///
 /// # Errors
 /// As [`read`]; then [`LayoutTooLong`](RefusalKind::LayoutTooLong), [`UnknownRegion`](RefusalKind::UnknownRegion),
