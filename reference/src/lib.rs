@@ -1,4 +1,4 @@
-//! The overlay examiner once more, written from document 01 alone.
+//! The overlay examiner once more, written from documents 01 and 02 alone.
 //!
 //! It exists to be compared with the proved library, so it shares neither code nor representation with it: a problem is a few
 //! `Vec`s, and where document 01 speaks of *all walks* the methods differ as well.

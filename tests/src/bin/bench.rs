@@ -140,11 +140,11 @@ fn bound(subject: &Subject) -> Times {
     })
 }
 
-/// What part of the library's time for Bound goes into filling in a layout, by two layouts of one problem that differ in that alone. It is
-/// small beside the spread of the times, so each turn is taken by itself; it may come out negative.
+/// By what part the library's Bound takes longer where the regions are filled in than where the same regions are listed. It is small beside
+/// the spread of the times, so each turn is taken by itself; it may come out negative.
 fn filling(short: &Subject, listed: &Subject) -> f64 {
     let call = |subject: &Subject| _ = black_box(examiner::bound(black_box(&subject.file), black_box(&subject.layout)));
-    median(&turns(&mut || call(short), &mut || call(listed)), |(filled, unfilled)| (filled - unfilled) / filled)
+    median(&turns(&mut || call(short), &mut || call(listed)), |(filled, kept)| (filled - kept) / kept)
 }
 
 fn run(subject: &Subject) -> Times {
@@ -168,7 +168,7 @@ fn rows_of_functions_apart(subject: &Subject) {
     let empty = subject.under(vec![]);
     row("Bound", &listed, bound(&listed), |_, _| "32 functions in 32 regions, all listed".to_string());
     let filling = 100.0 * filling(&empty, &listed);
-    row("Bound", &empty, bound(&empty), |_, _| format!("32 functions, the empty layout: {filling:+.1} % by filling"));
+    row("Bound", &empty, bound(&empty), |_, _| format!("32 functions, the empty layout: {filling:+.1} % on the row above"));
 }
 
 fn cell((library, reference): Times) -> String {
