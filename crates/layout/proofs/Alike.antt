@@ -1,6 +1,6 @@
 -- Layouts that give every function the same region are alike: what depends on a layout through its regions alone is the same of both.
 use Prim.Native.Nat.{ℕ, _+_, _-_, _≤_}
-use mathlib.Core.Path.{_≡_, refl, sym, ap, subst, _∙_}
+use mathlib.Core.Path.{_≡_, refl, subst, _∙_}
 use mathlib.Core.List.{List, [], _∷_}
 use mathlib.Core.Bool.{Bool, true, cond}
 use lib.Dec.{eqb, ltb}

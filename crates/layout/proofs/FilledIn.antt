@@ -1,5 +1,5 @@
 -- Bound and Run say the same of a layout and of its filled-in one; the bound of an accepted layout covers every lawful walk under the filled-in one.
-use Prim.Native.Nat.{ℕ, _≤_, _<_}
+use Prim.Native.Nat.{ℕ, _≤_}
 use mathlib.Core.Path.{_≡_, refl, sym, ap, _∙_}
 use mathlib.Core.List.{List, [], _∷_, reverse}
 use mathlib.Core.Bool.{cond}
