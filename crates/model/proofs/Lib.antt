@@ -1,5 +1,6 @@
 pub mod Cases
 pub mod Lists
+pub mod Mapped
 pub mod Search
 pub mod Answers
 pub mod Filling

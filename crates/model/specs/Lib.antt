@@ -18,6 +18,10 @@ pub mod Runs
 pub mod Operations
 pub mod Verdicts
 pub mod Results
+pub mod Drawings
+pub mod Inlining
+pub mod Inlined
+pub mod CallStack
 pub mod Outcomes
 pub mod Decimals
 pub mod Slips

@@ -40,6 +40,10 @@ tableFrom (suc n) i f = f i ∷ tableFrom n (i + 1) f
 abbrev pub table : {A : Type 0} → ℕ → (ℕ → A) → List A
 table n f = tableFrom n 0 f
 
+-- A list in n places, the spare ones zero.
+abbrev pub inPlaces : {A : Type 0} → ℕ → A → List A → List A
+inPlaces n spare s = table n (λ i. getD s i spare)
+
 module _ (l : List ℕ) where
   abbrev pub functionAt : ℕ → Function
   functionAt i = record { size = bytes (getD l (places.size + places.functionWidth * i) 0); load = cycles (getD l (places.load + places.functionWidth * i) 0) }

@@ -14,10 +14,13 @@ use Rattle.model.specs.declared.BoundAnswer.{BoundAnswer}
 use Rattle.model.specs.declared.BoundAnswer.the-variants as bound
 use Rattle.model.specs.declared.RunAnswer.{RunAnswer}
 use Rattle.model.specs.declared.RunAnswer.the-variants as run
+use Rattle.model.specs.declared.InlineAnswer.{InlineAnswer}
+use Rattle.model.specs.declared.InlineAnswer.the-variants as inline
 use Rattle.model.specs.Refusals.{number, place}
 use Rattle.model.specs.Numbers.{numbersOf}
 use Rattle.model.specs.Operations.{readFile, writeProblem}
 use Rattle.model.specs.Results.{InterferenceSays, BoundSays, runWalk}
+use Rattle.model.specs.Inlined.{inlineDrawing}
 
 -- A result's values, or a refusal's number and its place.
 pub data Outcome : Type 0 where
@@ -52,7 +55,12 @@ abbrev pub runOutcome : RunAnswer → Outcome
 runOutcome (run.Ran r) = Results (r .cycles .0 ∷ r .loads ∷ [])
 runOutcome (run.Refused f) = refusalOutcome f
 
--- What Read says of a file, Write of a problem and a buffer of `room` bytes, and Run of a walk.
+-- Inline: the problem, as its numbers in file order.
+abbrev pub inlineOutcome : InlineAnswer → Outcome
+inlineOutcome (inline.Accepted p) = Results (numbersOf p)
+inlineOutcome (inline.Refused f) = refusalOutcome f
+
+-- What Read says of a file, Write of a problem and a buffer of `room` bytes, Run of a walk, and Inline of a drawing.
 abbrev pub readSays : List ℕ → Outcome
 readSays file = readOutcome (readFile file)
 
@@ -61,6 +69,9 @@ writeSays p room = writeOutcome (writeProblem p room)
 
 abbrev pub runSays : Problem → List ℕ → List ℕ → Outcome
 runSays p layout walk = runOutcome (runWalk p layout walk)
+
+abbrev pub inlineSays : List ℕ → Outcome
+inlineSays d = inlineOutcome (inlineDrawing d)
 
 -- An outcome that Interference says, where the lent words hold `after` at the end, and one that Bound says.
 abbrev pub FillsWords : Problem → List ℕ → List ℕ → Outcome → Type 0

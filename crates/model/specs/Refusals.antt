@@ -1,8 +1,8 @@
--- Refusals: document 01's number and place of each.
+-- Refusals: the documents' number and place of each.
 use Prim.Native.Nat.{ℕ}
 use mathlib.Core.Path.{_≡_}
 use Rattle.model.specs.declared.Refusal.{Refusal}
-use Rattle.model.specs.declared.Refusal.the-variants.{EndsEarly, Misspelt, OutOfRange, NotAscending, LeftOver, MissingEdge, WrongLoop, WrongEdge, NoEdgeBack, BufferTooShort, LayoutTooLong, UnknownRegion, ScratchpadTooSmall, BoundTooLarge, WrongStep, BeyondBound, WalkTooLong}
+use Rattle.model.specs.declared.Refusal.the-variants.{EndsEarly, Misspelt, OutOfRange, NotAscending, LeftOver, MissingEdge, WrongLoop, WrongEdge, NoEdgeBack, BufferTooShort, LayoutTooLong, UnknownRegion, ScratchpadTooSmall, BoundTooLarge, WrongStep, BeyondBound, WalkTooLong, Recursive, CountPassed, LastCalls}
 use Rattle.model.specs.declared.Verdict.{Verdict}
 use Rattle.model.specs.declared.Verdict.the-variants as verdict
 
@@ -24,6 +24,9 @@ number (BoundTooLarge at) = 14
 number (WrongStep at) = 15
 number (BeyondBound at) = 16
 number (WalkTooLong at) = 17
+number (Recursive at) = 18
+number (CountPassed at) = 19
+number (LastCalls at) = 20
 
 abbrev pub place : Refusal → ℕ
 place (EndsEarly at) = at
@@ -43,6 +46,32 @@ place (BoundTooLarge at) = at
 place (WrongStep at) = at
 place (BeyondBound at) = at
 place (WalkTooLong at) = at
+place (Recursive at) = at
+place (CountPassed at) = at
+place (LastCalls at) = at
+
+-- The same refusal at another place.
+abbrev pub placedAt : Refusal → ℕ → Refusal
+placedAt (EndsEarly at) k = EndsEarly k
+placedAt (Misspelt at) k = Misspelt k
+placedAt (OutOfRange at) k = OutOfRange k
+placedAt (NotAscending at) k = NotAscending k
+placedAt (LeftOver at) k = LeftOver k
+placedAt (MissingEdge at) k = MissingEdge k
+placedAt (WrongLoop at) k = WrongLoop k
+placedAt (WrongEdge at) k = WrongEdge k
+placedAt (NoEdgeBack at) k = NoEdgeBack k
+placedAt (BufferTooShort at) k = BufferTooShort k
+placedAt (LayoutTooLong at) k = LayoutTooLong k
+placedAt (UnknownRegion at) k = UnknownRegion k
+placedAt (ScratchpadTooSmall at) k = ScratchpadTooSmall k
+placedAt (BoundTooLarge at) k = BoundTooLarge k
+placedAt (WrongStep at) k = WrongStep k
+placedAt (BeyondBound at) k = BeyondBound k
+placedAt (WalkTooLong at) k = WalkTooLong k
+placedAt (Recursive at) k = Recursive k
+placedAt (CountPassed at) k = CountPassed k
+placedAt (LastCalls at) k = LastCalls k
 
 -- A verdict that refuses.
 abbrev pub Refuses : Verdict → Type 0

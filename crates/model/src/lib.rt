@@ -1,8 +1,9 @@
 // The problem of document 01 and what the operations answer. What they mean is in specs/.
 ghost use mathlib.Core.Path.{_≡_};
-ghost use Rattle.model.specs.Refusals.{number, place, Refuses};
+ghost use Rattle.model.specs.Refusals.{number, place, placedAt, Refuses};
 ghost use Rattle.model.specs.declared.Verdict.the-variants.{Refused};
 
+pub mod drawn;
 pub mod limits;
 pub mod places;
 pub mod rows;
@@ -51,7 +52,10 @@ pub struct Problem {
     pub loops: [Loop; places::MOST_LOOPS],
 }
 
-// Why an operation refuses, each with its place. In the order of document 01's numbers, 1 to 17.
+// A drawn program: one graph per function, as numbers.
+pub type Drawing = [u32; drawn::END];
+
+// Why an operation refuses, each with its place. In the order of their numbers, 1 to 20.
 pub enum Refusal {
     EndsEarly(u64),
     Misspelt(u64),
@@ -70,6 +74,9 @@ pub enum Refusal {
     WrongStep(u64),
     BeyondBound(u64),
     WalkTooLong(u64),
+    Recursive(u64),
+    CountPassed(u64),
+    LastCalls(u64),
 }
 
 // What a check without a result says.
@@ -143,7 +150,21 @@ pub enum RunAnswer {
     Refused(Refusal),
 }
 
-// The refusal's number in document 01.
+// A vertex of an inlined drawing: a vertex of a function's copy, and the number of the copy's first vertex. The call vertex of a copy is the one before its
+// first.
+pub struct Row {
+    pub function: usize,
+    pub vertex: usize,
+    pub first: usize,
+}
+
+// Inline's result: the one problem of a drawing. As with Read, an operation on it goes on from its numbers.
+pub enum InlineAnswer {
+    Accepted(Problem),
+    Refused(Refusal),
+}
+
+// The refusal's number in the documents.
 pub fn number_of(refusal: Refusal) -> u32
     ensures { λ r. ⌜ r ≡ number refusal ⌝ }
 {
@@ -165,6 +186,9 @@ pub fn number_of(refusal: Refusal) -> u32
         Refusal::WrongStep(_) => 15,
         Refusal::BeyondBound(_) => 16,
         Refusal::WalkTooLong(_) => 17,
+        Refusal::Recursive(_) => 18,
+        Refusal::CountPassed(_) => 19,
+        Refusal::LastCalls(_) => 20,
     }
 }
 
@@ -189,7 +213,38 @@ pub fn place_of(refusal: Refusal) -> u64
         | Refusal::BoundTooLarge(at)
         | Refusal::WrongStep(at)
         | Refusal::BeyondBound(at)
-        | Refusal::WalkTooLong(at) => at,
+        | Refusal::WalkTooLong(at)
+        | Refusal::Recursive(at)
+        | Refusal::CountPassed(at)
+        | Refusal::LastCalls(at) => at,
+    }
+}
+
+// The same refusal at another place.
+pub fn placed_at(refusal: Refusal, at: u64) -> Refusal
+    ensures { λ r. ⌜ r ≡ placedAt refusal at ⌝ }
+{
+    match refusal {
+        Refusal::EndsEarly(_) => Refusal::EndsEarly(at),
+        Refusal::Misspelt(_) => Refusal::Misspelt(at),
+        Refusal::OutOfRange(_) => Refusal::OutOfRange(at),
+        Refusal::NotAscending(_) => Refusal::NotAscending(at),
+        Refusal::LeftOver(_) => Refusal::LeftOver(at),
+        Refusal::MissingEdge(_) => Refusal::MissingEdge(at),
+        Refusal::WrongLoop(_) => Refusal::WrongLoop(at),
+        Refusal::WrongEdge(_) => Refusal::WrongEdge(at),
+        Refusal::NoEdgeBack(_) => Refusal::NoEdgeBack(at),
+        Refusal::BufferTooShort(_) => Refusal::BufferTooShort(at),
+        Refusal::LayoutTooLong(_) => Refusal::LayoutTooLong(at),
+        Refusal::UnknownRegion(_) => Refusal::UnknownRegion(at),
+        Refusal::ScratchpadTooSmall(_) => Refusal::ScratchpadTooSmall(at),
+        Refusal::BoundTooLarge(_) => Refusal::BoundTooLarge(at),
+        Refusal::WrongStep(_) => Refusal::WrongStep(at),
+        Refusal::BeyondBound(_) => Refusal::BeyondBound(at),
+        Refusal::WalkTooLong(_) => Refusal::WalkTooLong(at),
+        Refusal::Recursive(_) => Refusal::Recursive(at),
+        Refusal::CountPassed(_) => Refusal::CountPassed(at),
+        Refusal::LastCalls(_) => Refusal::LastCalls(at),
     }
 }
 
