@@ -2,5 +2,3 @@ pub mod Numbers
 pub mod Views
 pub mod Walks
 pub mod Checks
-pub mod Results
-pub mod Answers

@@ -1,1 +1,1 @@
-// Laws of spare places: two records that are the same but for these get the same answer from every operation.
+// Laws of spare places: two records that are the same but for these pass the same checks, and Write writes the same.

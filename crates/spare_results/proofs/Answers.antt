@@ -13,7 +13,7 @@ use Rattle.model.specs.Operations.{SameProblem}
 use Rattle.model.specs.Results.{InterferenceSays, BoundSays}
 use Rattle.interference.proofs.Decided.{interference-decided}
 use Rattle.bound.proofs.Decided.{bound-decided}
-use Rattle.spare.proofs.Results.{interference-says-too, bound-says-too}
+use Rattle.spare_results.proofs.Results.{interference-says-too, bound-says-too}
 
 -- Interference and Bound, whose contracts say what holds of the answer. (Of Write and Run, whose contracts are equations, Checks and Results say it.)
 module _ (p q : Problem) (sized : Sized p) (sized′ : Sized q) (same : SameProblem p q) where
