@@ -39,7 +39,7 @@ refused-as (Done n) x e = refused-not-accepted (sym e)
 refused-as (Refused r) x e = cc
 
 -- One whose verdict is good has a length.
-accepted-as : (f : FieldsAnswer) → asVerdict f ≡ verdict.Accepted → (need : ℕ) × (f ≡ Done need)
+pub accepted-as : (f : FieldsAnswer) → asVerdict f ≡ verdict.Accepted → (need : ℕ) × (f ≡ Done need)
 accepted-as (Done n) e = (n, refl)
 accepted-as (Refused r) e = refused-not-accepted e
 

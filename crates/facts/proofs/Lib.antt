@@ -10,3 +10,4 @@ pub mod Lists
 pub mod Walk
 pub mod Facts
 pub mod Cleared
+pub mod Done

@@ -40,7 +40,7 @@ or-false true b e = absurd (true≢false e)
 or-false false b e = (refl, e)
 
 -- A rule that is not broken is broken nowhere.
-kept : (n : ℕ) (test : ℕ → Bool) (refusal : ℕ → Refusal) → broken n test refusal ≡ Accepted → (i : ℕ) → i < n → test i ≡ false
+pub kept : (n : ℕ) (test : ℕ → Bool) (refusal : ℕ → Refusal) → broken n test refusal ≡ Accepted → (i : ℕ) → i < n → test i ≡ false
 kept n test refusal e i h = by-bool (existsBelow n test) (λ q. refused-not-accepted (rw q at e)) (λ q. none-below n test q i h)
 
 -- What is found at no index is found at no member, and what is found at an index is found at a member.

@@ -2,5 +2,8 @@ pub mod Places
 pub mod Parts
 pub mod Items
 pub mod Inverse
+pub mod At
 pub mod Assembled
 pub mod Edition
+pub mod InParts
+pub mod Tables

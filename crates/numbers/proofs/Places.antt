@@ -1,13 +1,13 @@
 -- Laws of storing numbers one after another, and of a loop that so stores items, each as its numbers.
 use Prim.Native.Nat.{ℕ, suc, _+_, _*_, _≤_, _<_}
 use mathlib.Core.Path.{_≡_, refl, sym, ap, _∙_}
-use mathlib.Core.List.{List, [], _∷_, _++_, flatMap, append-assoc, append-nil}
+use mathlib.Core.List.{List, [], _∷_, _++_, flatMap, append-nil}
 use native.Mathlib.Omega.{arith}
 use native.Mathlib.Nat.{mul-suc, suc-add}
-use native.Mathlib.Numerals.{add-one}
 use lib.ListN.{length, getD, set, take, drop, length-append}
-use lib.Seq.{sets, sets-eq, take-suc, take-all, length-take-le, drop-length}
+use lib.Seq.{sets, sets-eq, take-all, length-take-le, drop-length}
 use Rattle.model.proofs.Lists.{stored-behind}
+use Rattle.model.proofs.Mapped.{flatMap-more}
 use Rattle.numbers.specs.Numbered.{Stored}
 
 -- A list that is stored over another as long takes its place.
@@ -19,18 +19,6 @@ sets-over l xs e =
     ∙ append-nil xs
 
 module _ {A : Type 0} (f : A → List ℕ) where
-  flatMap-append : (xs ys : List A) → flatMap f (xs ++ ys) ≡ flatMap f xs ++ flatMap f ys
-  unfolding flatMap
-  flatMap-append [] ys = refl
-  flatMap-append (x ∷ xs) ys = ap (λ (r : List ℕ). f x ++ r) (flatMap-append xs ys) ∙ sym (append-assoc (f x) (flatMap f xs) (flatMap f ys))
-
-  flatMap-more : (xs : List A) (i : ℕ) (d : A) → i < length xs → flatMap f (take (i + 1) xs) ≡ flatMap f (take i xs) ++ f (getD xs i d)
-  unfolding flatMap
-  flatMap-more xs i d h =
-      ap (λ (r : List A). flatMap f r) (ap (λ (k : ℕ). take k xs) (add-one i) ∙ take-suc xs i d h)
-      ∙ flatMap-append (take i xs) (getD xs i d ∷ [])
-      ∙ ap (λ (r : List ℕ). flatMap f (take i xs) ++ r) (append-nil (f (getD xs i d)))
-
   -- The first i of the n items xs are stored from the base on.
   pub record Storing (n base : ℕ) (xs : List A) (l₀ : List ℕ) (i : ℕ) (l : List ℕ) : Type 0 where
     pub within : i ≤ n
@@ -67,7 +55,7 @@ module _ {A : Type 0} (f : A → List ℕ) where
             long = s .long;
             is =
                 stored-behind l₀ l l′ base (base + w * i) (flatMap f (take i xs)) (f (getD xs i d)) (s .is) (ap (λ (m : ℕ). base + m) first) e
-                ∙ ap (λ (r : List ℕ). sets l₀ base r) (sym (flatMap-more xs i d lt));
+                ∙ ap (λ (r : List ℕ). sets l₀ base r) (sym (flatMap-more f xs i d lt));
           }
 
 -- One turn of a loop that stores an item's two or three numbers at places that follow one another.
