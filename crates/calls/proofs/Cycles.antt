@@ -1,0 +1,75 @@
+-- A run with a call stack takes as many cycles as its walk of the one problem, for every layout.
+use Prim.Native.Nat.{ℕ, _+_, _<_}
+use mathlib.Core.Path.{_≡_, refl, sym, ap, ap₂, _∙_}
+use mathlib.Core.List.{List, _∷_, map}
+use mathlib.Core.Bool.{Bool, cond}
+use Rattle.model.specs.declared.Problem.{Problem}
+use Rattle.model.specs.Costs.{functionOf, ownCost, loadCost}
+use Rattle.model.specs.Layouts.{regionOf}
+use Rattle.model.specs.Runs.{held, hit, cycles}
+use Rattle.model.specs.Drawings.{drawnFunctions}
+use Rattle.model.specs.CallStack.{Stack, stack, Run, begin, then, running, ownOf, loadOf, stackCycles}
+use Rattle.calls.proofs.States.{State, Valid, Drawn}
+use Rattle.calls.proofs.Number.{fits-known}
+use Rattle.calls.proofs.Runs.{below}
+use Rattle.calls.proofs.Frames.{callers, spotOf}
+use Rattle.calls.proofs.Costs.{shown, label}
+use Rattle.calls.proofs.Stacks.{numberOf, stack-valid, stack-at}
+
+-- A problem whose vertices show what the states show, and whose functions have the drawn load costs.
+pub record Labelled (d : List ℕ) (size : ℕ → ℕ) (p : Problem) : Type 0 where
+  pub function : (i : ℕ) → i < size 0 → functionOf p i ≡ label d i .function
+  pub own : (i : ℕ) → i < size 0 → ownCost p i ≡ label d i .own
+  pub load : (f : ℕ) → f < drawnFunctions d → loadCost p f ≡ loadOf d f
+
+module _ (d : List ℕ) where
+  running-shown : (s : Stack) → shown d (spotOf s) .function ≡ running s
+  running-shown (stack a s) = refl
+
+  own-shown : (s : Stack) → shown d (spotOf s) .own ≡ ownOf d s
+  own-shown (stack a s) = refl
+
+module _ (d : List ℕ) (size : ℕ → ℕ) (D : Drawn d size) (p : Problem) (M : Labelled d size p) where
+  pub same-function : {s : Stack} {h : List Stack} → Run d s h → functionOf p (numberOf d size s) ≡ running s
+  same-function {s} r =
+      M .function (numberOf d size s) (below d size D (spotOf s) (stack-valid d size D r))
+      ∙ ap (λ (x : State). shown d x .function) (stack-at d size D r)
+      ∙ running-shown d s
+
+  pub same-own : {s : Stack} {h : List Stack} → Run d s h → ownCost p (numberOf d size s) ≡ ownOf d s
+  same-own {s} r =
+      M .own (numberOf d size s) (below d size D (spotOf s) (stack-valid d size D r))
+      ∙ ap (λ (x : State). shown d x .own) (stack-at d size D r)
+      ∙ own-shown d s
+
+  running-known : (s : Stack) → Valid d (spotOf s) → running s < drawnFunctions d
+  running-known (stack a s) v = fits-known d size D (a .function) (callers s) (v .1)
+
+  same-load : {s : Stack} {h : List Stack} → Run d s h → loadCost p (functionOf p (numberOf d size s)) ≡ loadOf d (running s)
+  same-load {s} r = ap (loadCost p) (same-function r) ∙ M .load (running s) (running-known s (stack-valid d size D r))
+
+  -- The regions hold the same functions all along.
+  same-held :
+      (region : ℕ → ℕ) (r : ℕ) {s : Stack} {h : List Stack} → Run d s h →
+      held (functionOf p) region r (map (numberOf d size) h) ≡ held (λ f. f) region r (map (running) h)
+  unfolding held
+  same-held region r begin = refl
+  same-held region r (then t x) = rw (same-function t, same-held region r t)
+
+  same-hit :
+      (region : ℕ → ℕ) {s : Stack} {h : List Stack} → Run d s h →
+      hit (functionOf p) region (numberOf d size s) (map (numberOf d size) h) ≡ hit (λ f. f) region (running s) (map (running) h)
+  same-hit region {s} r = rw (same-function r, same-held region (region (running s)) r)
+
+  same-visit :
+      (layout : List ℕ) {s : Stack} {h : List Stack} → Run d s h →
+      ownCost p (numberOf d size s)
+      + cond (hit (functionOf p) (regionOf layout) (numberOf d size s) (map (numberOf d size) h)) 0 (loadCost p (functionOf p (numberOf d size s)))
+      ≡ ownOf d s + cond (hit (λ f. f) (regionOf layout) (running s) (map (running) h)) 0 (loadOf d (running s))
+  same-visit layout {s} r = ap₂ _+_ (same-own r) (ap₂ (λ (t : Bool) (n : ℕ). cond t 0 n) (same-hit (regionOf layout) r) (same-load r))
+
+  pub same-cycles :
+      (layout : List ℕ) {s : Stack} {h : List Stack} → Run d s h → stackCycles d layout (s ∷ h) ≡ cycles p layout (map (numberOf d size) (s ∷ h))
+  unfolding stackCycles cycles
+  same-cycles layout begin = ap (λ (n : ℕ). 0 + n) (sym (same-visit layout begin))
+  same-cycles layout (then r x) = ap₂ _+_ (same-cycles layout r) (sym (same-visit layout (then r x)))

@@ -1,0 +1,17 @@
+pub mod Members
+pub mod States
+pub mod Number
+pub mod Runs
+pub mod Stretch
+pub mod Pasts
+pub mod Stays
+pub mod Lawful
+pub mod Edges
+pub mod Whereabouts
+pub mod Rules
+pub mod Frames
+pub mod Costs
+pub mod Stacks
+pub mod Cycles
+pub mod Closure
+pub mod Sizes
