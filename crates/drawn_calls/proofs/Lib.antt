@@ -1,0 +1,4 @@
+pub mod Callees
+pub mod Last
+pub mod Calls
+pub mod InPlace
