@@ -1,0 +1,9 @@
+pub mod Spots
+pub mod Adding
+pub mod Halving
+pub mod Drawn
+pub mod Leaving
+pub mod Rows
+pub mod ByRow
+pub mod Headers
+pub mod Made
