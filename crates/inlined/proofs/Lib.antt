@@ -1,0 +1,11 @@
+pub mod Ordered
+pub mod RowsAre
+pub mod Places
+pub mod EdgesAre
+pub mod EdgesAscend
+pub mod LoopsAre
+pub mod Parts
+pub mod Rules
+pub mod Fields
+pub mod Accepted
+pub mod Steps
