@@ -3,6 +3,9 @@ use model::FieldsAnswer;
 use model::Numbers;
 use model::Verdict;
 ghost use mathlib.Core.Path.{_≡_};
+ghost use Rattle.model.specs.declared.FieldsAnswer.the-variants.{Done};
+ghost use Rattle.model.specs.File.{checkFields};
+ghost use Rattle.model.specs.Operations.{Checked};
 ghost use Rattle.model.specs.Verdicts.{asVerdict};
 ghost use Rattle.checks.specs.Steps.{checkNumbers, judgeNumbers};
 
@@ -36,4 +39,15 @@ pub fn judge(numbers: &Numbers) -> Verdict
     ensures { λ r. ⌜ r ≡ judgeNumbers (now (numbers .entry)) ⌝ }
 {
     verdict_of(check(numbers))
+}
+
+// The length of the file of numbers that passed the checks. The other case is never met, and a loop without an end stands there.
+pub fn file_length(numbers: &Numbers) -> usize
+    requires { ⌜ Checked (now numbers) ⌝ }
+    ensures { λ r. ⌜ checkFields (now (numbers .entry)) ≡ Done r ⌝ }
+{
+    let FieldsAnswer::Done(need) = judging::check_fields(numbers) else {
+        loop {}
+    };
+    need
 }

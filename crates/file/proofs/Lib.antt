@@ -1,2 +1,3 @@
 pub mod NumbersRead
 pub mod Stages
+pub mod Answering

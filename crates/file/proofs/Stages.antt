@@ -1,6 +1,6 @@
 -- Read and Write, stage by stage: what each function returns is what the definition says for the stage that it stops at.
 use Prim.Native.Nat.{ℕ, _≤_, _<_}
-use mathlib.Core.Path.{_≡_, sym, ap, _∙_}
+use mathlib.Core.Path.{_≡_, refl, sym, ap, _∙_}
 use mathlib.Core.List.{List}
 use lib.ListN.{length}
 use lib.Seq.{sets}
@@ -18,10 +18,12 @@ use Rattle.model.specs.declared.WriteAnswer.the-variants as write
 use Rattle.model.specs.Numbers.{problemOf}
 use Rattle.model.specs.File.{Scan, scanned, readFields, checkFields, fileBytes}
 use Rattle.model.specs.Graph.{judgeGraph}
-use Rattle.model.specs.Operations.{readVerdict, readRest, readFile, writeChecked, writeProblem, afterWrite, writtenBuffer}
+use Rattle.model.specs.Operations.{readVerdict, readRest, readFile, writeChecked, writeProblem, afterWrite, writtenBuffer, afterGraph, afterFields, Checked}
 use Rattle.model.specs.Verdicts.{asVerdict}
 use Rattle.model.proofs.Answers.{refused-not-accepted}
 use Rattle.numbers.specs.Numbered.{Numbered}
+use Rattle.numbers.proofs.Inverse.{sized-problem, numbers-of-problem}
+use Rattle.facts.proofs.Facts.{field-facts}
 use Rattle.writing.specs.Fits.{Fits}
 use Rattle.file.proofs.NumbersRead.{size-read, checked-read}
 use Rattle.checks.proofs.Opened.{good, checks-problem, refused-as}
@@ -95,3 +97,22 @@ module _ (p : Problem) (l buf : List ℕ) (numbered : Numbered p l) (f : FieldsA
           let count : n ≡ need = cc in
           let a : write.Written n ≡ writeProblem p (length buf) = rw count (simp (le-ltb (length buf) need h) at (writes _ e)) in
           (a, w ∙ ap (λ (x : List ℕ). sets buf 0 (fileBytes x)) (numbered .is) ∙ holds _ a)
+
+-- Write, where the problem's numbers are checked and their file has this length.
+module _ (l buf : List ℕ) (ok : Checked l) (need : ℕ) (length-is : checkFields l ≡ fields.Done need) where
+  own : Numbered (problemOf l) l
+  own = record { is = sym (numbers-of-problem l (ok .size) (field-facts l need length-is .edition)); sized = sized-problem l }
+
+  passes : checkNumbers l ≡ fields.Done need
+  unfolding checkNumbers
+  passes = ap (λ (f : FieldsAnswer). afterFields f (problemOf l)) length-is ∙ ap (λ (v : Verdict). afterGraph v need) (ok .graph)
+
+  pub checked-short : length buf < need → (write.Refused (refusal.BufferTooShort need) ≡ writeProblem (problemOf l) (length buf)) × (buf ≡ writtenBuffer (problemOf l) buf)
+  checked-short = too-short (problemOf l) l buf own (checkNumbers l) refl need passes
+
+  pub checked-fits : need ≤ length buf → Fits l buf
+  checked-fits = fits (problemOf l) l buf own (checkNumbers l) refl need passes
+
+  pub checked-written : need ≤ length buf → (n : ℕ) (after : List ℕ) → fields.Done n ≡ checkFields l → after ≡ sets buf 0 (fileBytes l) →
+      (write.Written n ≡ writeProblem (problemOf l) (length buf)) × (after ≡ writtenBuffer (problemOf l) buf)
+  checked-written = written (problemOf l) l buf own (checkNumbers l) refl need passes

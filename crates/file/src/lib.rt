@@ -10,7 +10,8 @@ use model::places;
 ghost use mathlib.Core.Path.{_≡_};
 ghost use lib.ListN.{length, replicate};
 ghost use Rattle.model.specs.File.{numberCount};
-ghost use Rattle.model.specs.Operations.{readFile, writeProblem, writtenBuffer};
+ghost use Rattle.model.specs.Numbers.{problemOf};
+ghost use Rattle.model.specs.Operations.{readFile, writeProblem, writtenBuffer, Checked};
 ghost use Rattle.model.specs.Outcomes.{readOutcome, writeOutcome, readSays, writeSays};
 ghost use Rattle.file.specs.Steps.{NumbersRead};
 
@@ -58,4 +59,18 @@ pub fn write(problem: Problem, buf: &mut [u8]) -> WriteAnswer
     }
     let written = writing::write_fields(buf, &numbers);
     WriteAnswer::Written(written)
+}
+
+// Write of a problem whose numbers passed its checks: an operation that goes on with a problem's numbers ends so.
+pub fn write_checked(numbers: &Numbers, buf: &mut [u8]) -> WriteAnswer
+    requires { ⌜ Checked (now numbers) ⌝ }
+    ensures { λ r. ⌜ r ≡ writeProblem (problemOf (now (numbers .entry))) (length (now (buf .entry))) ⌝ }
+    ensures { λ r. ⌜ now (buf .exit) ≡ writtenBuffer (problemOf (now (numbers .entry))) (now (buf .entry)) ⌝ }
+{
+    let length = checks::file_length(numbers);
+    if buf.len() < length {
+        return WriteAnswer::Refused(Refusal::BufferTooShort(length as u64));
+    }
+    let bytes = writing::write_fields(buf, numbers);
+    WriteAnswer::Written(bytes)
 }
