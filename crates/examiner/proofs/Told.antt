@@ -1,4 +1,4 @@
--- How an export's outcome follows from Read's answer: a refusal stands, a problem goes on.
+-- How an export's outcome follows from Read's answer, or Inline's: a refusal stands, a problem goes on.
 use Prim.Native.Nat.{ℕ}
 use mathlib.Core.Path.{_≡_, sym, ap, _∙_, subst}
 use mathlib.Core.List.{List}
@@ -8,9 +8,12 @@ use Rattle.model.specs.declared.Verdict.the-variants as verdict
 use Rattle.model.specs.declared.Problem.{Problem}
 use Rattle.model.specs.declared.ReadAnswer.{ReadAnswer}
 use Rattle.model.specs.Numbers.{problemOf}
+use Rattle.model.specs.declared.InlineAnswer.{InlineAnswer}
 use Rattle.model.specs.Operations.{readVerdict, readFile}
+use Rattle.model.specs.Inlined.{inlineVerdict, inlineDrawing}
 use Rattle.file.specs.Steps.{NumbersRead}
-use Rattle.outcomes.specs.Outcomes.{onRead, ByRead}
+use Rattle.inline.specs.Steps.{NumbersInlined}
+use Rattle.outcomes.specs.Outcomes.{onRead, ByRead, onInline}
 
 -- Read's answer, where the numbers l were read with the verdict v.
 module _ (s l : List ℕ) (v : Verdict) (found : NumbersRead s l v) where
@@ -35,3 +38,14 @@ module _ (s l : List ℕ) (v : Verdict) (found : NumbersRead s l v) where
 
     pub right-on : v ≡ verdict.Accepted → Good (problemOf l) → ByRead (readFile s) Good Refused
     right-on e g = subst (λ (a : ReadAnswer). ByRead a Good Refused) (answered _ e) g
+
+-- Inline's answer, where the numbers l were built with the verdict v.
+module _ (d l : List ℕ) (v : Verdict) (built : NumbersInlined d l v) {A : Type 0} (good : Problem → A) (refused : Refusal → A) where
+  inlined : (w : Verdict) → v ≡ w → inlineVerdict w (problemOf l) ≡ inlineDrawing d
+  inlined w e = ap (λ (x : Verdict). inlineVerdict x (problemOf l)) (sym e) ∙ built .answer
+
+  pub inline-stands : (f : Refusal) → v ≡ verdict.Refused f → refused f ≡ onInline (inlineDrawing d) good refused
+  inline-stands f e = ap (λ (a : InlineAnswer). onInline a good refused) (inlined _ e)
+
+  pub inline-goes-to : {a : A} → a ≡ good (problemOf l) → v ≡ verdict.Accepted → a ≡ onInline (inlineDrawing d) good refused
+  inline-goes-to is e = is ∙ ap (λ (a : InlineAnswer). onInline a good refused) (inlined _ e)

@@ -6,8 +6,9 @@ use Rattle.model.specs.declared.Problem.{Problem}
 use Rattle.model.specs.Numbers.{problemOf}
 use Rattle.model.specs.Operations.{readFile, writtenBuffer}
 use Rattle.model.specs.Results.{runRegions}
+use Rattle.model.specs.Inlined.{inlineDrawing}
 use Rattle.model.specs.Outcomes.{Outcome, Results, refusalOutcome, writeSays, runSays, FillsWords, IsBounded}
-use Rattle.outcomes.specs.Outcomes.{counts, onRead, ByRead}
+use Rattle.outcomes.specs.Outcomes.{counts, onRead, ByRead, onInline}
 
 -- **examiner_read**
 abbrev pub readTold : List ℕ → Outcome
@@ -41,3 +42,10 @@ runTold file layout walk = onRead (readFile file) (λ p. runSays p layout walk) 
 
 abbrev pub runHeld : List ℕ → List ℕ → List ℕ → List ℕ → List ℕ
 runHeld file layout walk held = onRead (readFile file) (λ p. runRegions p layout walk held) (λ f. held)
+
+-- **examiner_inline**: the one problem's file, where `out` has room for that many bytes.
+abbrev pub inlineTold : List ℕ → ℕ → Outcome
+inlineTold drawing room = onInline (inlineDrawing drawing) (λ p. writeSays p room) refusalOutcome
+
+abbrev pub inlineOut : List ℕ → List ℕ → List ℕ
+inlineOut drawing out = onInline (inlineDrawing drawing) (λ p. writtenBuffer p out) (λ f. out)

@@ -1,4 +1,5 @@
 // The library for C and Rust callers: an operation an export. Each answers 0, or the refusal's number with its place in answer[0].
+use model::Drawing;
 use model::Verdict;
 use model::limits;
 use model::places;
@@ -7,7 +8,7 @@ ghost use mathlib.Core.Path.{_≡_};
 ghost use lib.ListN.{length};
 ghost use Rattle.model.specs.Operations.{writtenBuffer};
 ghost use Rattle.outcomes.specs.Outcomes.{status, answerAfter, Right};
-ghost use Rattle.examiner.specs.Exports.{readTold, writeTold, writeOut, fieldsProblem, fieldsTold, InterferenceTold, BoundTold, runTold, runHeld};
+ghost use Rattle.examiner.specs.Exports.{readTold, writeTold, writeOut, fieldsProblem, fieldsTold, InterferenceTold, BoundTold, runTold, runHeld, inlineTold, inlineOut};
 
 // **Read**: the numbers of functions, vertices, edges and loops.
 #[no_mangle]
@@ -103,4 +104,19 @@ pub extern "C" fn examiner_run(
     };
     let ran = run::run_checked(&numbers, layout, walk, held);
     outcomes::tell_ran(ran, answer)
+}
+
+// **Inline** of a drawing: the bytes written, and the file of its one problem in `out`.
+#[no_mangle]
+pub extern "C" fn examiner_inline(drawing: &Drawing, out: &mut [u8], answer: &mut Answer) -> u32
+    ensures { λ r. ⌜ r ≡ status (inlineTold (now (drawing .entry)) (length (now (out .entry)))) ⌝ }
+    ensures { λ r. ⌜ now (answer .exit) ≡ answerAfter (inlineTold (now (drawing .entry)) (length (now (out .entry)))) (now (answer .entry)) ⌝ }
+    ensures { λ r. ⌜ now (out .exit) ≡ inlineOut (now (drawing .entry)) (now (out .entry)) ⌝ }
+{
+    let mut numbers = [0u64; places::END];
+    let verdict = inline::inline_numbers(drawing, &mut numbers);
+    let Verdict::Accepted = verdict else {
+        return outcomes::refuse(model::refusal_in(verdict), answer);
+    };
+    outcomes::tell_written(file::write_checked(&numbers, out), answer)
 }

@@ -7,6 +7,8 @@ use Rattle.model.specs.declared.Refusal.{Refusal}
 use Rattle.model.specs.declared.Problem.{Problem}
 use Rattle.model.specs.declared.ReadAnswer.{ReadAnswer}
 use Rattle.model.specs.declared.ReadAnswer.the-variants as read
+use Rattle.model.specs.declared.InlineAnswer.{InlineAnswer}
+use Rattle.model.specs.declared.InlineAnswer.the-variants as inline
 use Rattle.model.specs.Outcomes.{Outcome, Results, Refusing}
 
 -- The number returned: 0, or the refusal's number.
@@ -23,6 +25,11 @@ answerAfter (Refusing n at) answer = sets answer 0 (at ∷ [])
 abbrev pub onRead : {A : Type 0} → ReadAnswer → (Problem → A) → (Refusal → A) → A
 onRead (read.Accepted p) good refused = good p
 onRead (read.Refused f) good refused = refused f
+
+-- An operation on a drawing goes on with its one problem; otherwise Inline's refusal stands.
+abbrev pub onInline : {A : Type 0} → InlineAnswer → (Problem → A) → (Refusal → A) → A
+onInline (inline.Accepted p) good refused = good p
+onInline (inline.Refused f) good refused = refused f
 
 -- What is told of a problem that was read: its counts.
 abbrev pub counts : Problem → List ℕ
