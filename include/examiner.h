@@ -3,15 +3,16 @@
  * x86-64 Linux.
  *
  * A problem is always given as its file: edition, scratchpad size, functions, vertices, edges and loops, each number in groups of
- * seven bits, lowest group first. Every function judges the file before anything else.
+ * seven bits, lowest group first. Every function judges the file before anything else. examiner_inline and examiner_write_fields make
+ * such a file: from a drawing, one graph a function, and from the problem's numbers.
  *
  * RESULTS
  *   Each function returns 0, or the number of a refusal with its place in answer[0]. Places of `answer` that a result does not use
  *   keep their values. On a refusal all other lent memory keeps its values too: `out`, `words`, `held` and answer[1] to answer[3].
  *
  * POINTERS
- *   - A parameter NAME with NAME_length is a slice: a pointer to the first of NAME_length values. `answer`, `held` and `fields` have
- *     a fixed number of places, and are never null.
+ *   - A parameter NAME with NAME_length is a slice: a pointer to the first of NAME_length values. `answer`, `held`, `fields` and
+ *     `drawing` have a fixed number of places, and are never null.
  *   - A pointer is aligned for its type. It is null only together with length 0.
  *   - No two parameters overlap where one of them is written to (`out`, `words`, `held`, `answer`).
  *   - Nothing is kept after the return, and nothing is allocated. Calls from several threads need no lock as long as nothing writes
@@ -45,6 +46,11 @@
  *                            length)                                          place: the first bad position
  *    16  BeyondBound         a header is visited more often than its bound    place: the first bad position
  *    17  WalkTooLong         more than EXAMINER_MOST_ENTRIES entries          place: EXAMINER_MOST_ENTRIES
+ *   in the drawing, where 3, 4 and 6 to 9 are of one graph                    place: the lowest function
+ *    18  Recursive           a function can reach itself by calls             place: the lowest function
+ *    19  CountPassed         the one problem has too many vertices, edges or
+ *                            loops                                            place: 0
+ *    20  LastCalls           a graph's last vertex calls                      place: the lowest function
  */
 #ifndef EXAMINER_H
 #define EXAMINER_H
@@ -78,8 +84,11 @@ extern "C" {
 #define EXAMINER_LOOPS (EXAMINER_LOOP_COUNT + 1)
 #define EXAMINER_FIELDS (EXAMINER_LOOPS + 3 * EXAMINER_MOST_LOOPS)
 
-/* In `held`: no function was loaded into the region. */
+/* In `held`: no function was loaded into the region. In `drawing`: the vertex calls no function. */
 #define EXAMINER_NONE 255
+
+/* The places of `drawing`. */
+#define EXAMINER_DRAWING 44194
 
 /* The greatest bound that is given, and the greatest length of a walk. */
 #define EXAMINER_MOST_BOUND UINT64_C(1000000000000000000)
@@ -162,6 +171,67 @@ uint32_t examiner_run(const uint8_t *file, size_t file_length, const uint8_t *la
  * Refusals: 3 and 4 in file order, placed by the bytes it would write; then 6, 7, 8, 9; last 10 (bytes needed).
  */
 uint32_t examiner_write_fields(const uint32_t *fields, uint8_t *out, size_t out_length, uint64_t *answer);
+
+/* A drawn vertex: the function that it calls, EXAMINER_NONE for none, and its own cost. */
+struct examiner_drawn_vertex {
+    uint32_t callee;
+    uint32_t cost;
+};
+
+/* A drawn edge, from one vertex of its graph to another. */
+struct examiner_drawn_edge {
+    uint32_t from;
+    uint32_t to;
+};
+
+/* A drawn loop: the vertices `header` to `last` of its graph, both counted, and the most visits to the header in one stay. */
+struct examiner_drawn_loop {
+    uint32_t header;
+    uint32_t last;
+    uint32_t bound;
+};
+
+/* A function and its graph. Vertices are those of this graph, from 0 on; the highest is the last. */
+struct examiner_graph {
+    uint32_t size;
+    uint32_t load;
+    uint32_t vertex_count;
+    struct examiner_drawn_vertex vertices[EXAMINER_MOST_VERTICES];
+    uint32_t edge_count;
+    struct examiner_drawn_edge edges[EXAMINER_MOST_EDGES];
+    uint32_t loop_count;
+    struct examiner_drawn_loop loops[EXAMINER_MOST_LOOPS];
+};
+
+/* A drawn program. It starts at vertex 0 of function 0. */
+struct examiner_drawing {
+    uint32_t scratchpad;
+    uint32_t function_count;
+    struct examiner_graph functions[EXAMINER_MOST_FUNCTIONS];
+};
+
+/* A struct examiner_drawing is the EXAMINER_DRAWING numbers of `drawing`, in order. */
+typedef char examiner_drawing_has_its_numbers[sizeof(struct examiner_drawing) == EXAMINER_DRAWING * sizeof(uint32_t) ? 1 : -1];
+
+/*
+ * Inline: one problem from a drawing, one graph a function, whose vertices may call other functions. `drawing` are EXAMINER_DRAWING
+ * numbers, those of a struct examiner_drawing `d` as (const uint32_t *)&d. Places past a count are spare: they may have any value and
+ * are no part of the drawing, and so are all of a function from the number of functions on.
+ *
+ * A copy of the callee follows its call vertex. The call vertex has an edge to the copy's first vertex and no other; the copy's last
+ * vertex has the edges that were drawn from the call vertex. A loop that holds the call vertex holds the copy too. Scratchpad and
+ * functions, with their numbers, are as drawn, so a layout of the drawing is one of the problem.
+ *
+ * A run of the drawn program goes from a call to vertex 0 of the callee, and from a graph's last vertex on along an edge of the call
+ * vertex, which is not visited again. Each call counts the callee's loop bounds afresh, and a stay goes on through the calls made in
+ * it. These runs are the problem's walks, one for one, with the same cycles: so the bound of the problem is one of the drawn program.
+ *
+ * On 0: answer[0] the bytes written, the problem's file in `out`; bytes of `out` past it keep their values.
+ * Refusals, in this order: 3 at 0 for the scratchpad size or the number of functions; for the lowest function whose graph breaks 3, 4
+ * or 6 to 9, judged as if it were to be written by itself, that number, a callee that is neither a function nor EXAMINER_NONE being 3;
+ * 20; 18; 19; last 10 (bytes needed). Functions that nothing calls are judged too, but only what function 0 reaches counts towards 19.
+ */
+uint32_t examiner_inline(const uint32_t *drawing, uint8_t *out, size_t out_length, uint64_t *answer);
 
 #ifdef __cplusplus
 }
