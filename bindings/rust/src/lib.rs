@@ -4,8 +4,8 @@
 //! bounds, function sizes and load costs; a *layout* says which function goes to which region. The examiner names the interference,
 //! prices the reloads and gives a worst-case time, or it refuses with a number and a place.
 //!
-//! Every operation takes the problem as its file, and judges that first. The code behind this wrapper is proved against its definitions
-//! for every input; the wrapper is the only Rust code in between.
+//! Every operation takes the problem as its file, and judges that first; [`inline`] makes such a file from a program drawn function by
+//! function. The code behind this wrapper is proved against its definitions for every input; the wrapper is the only Rust code in between.
 //!
 //! ```
 //! // one function of 8 bytes with load cost 5, one vertex of cost 10, scratchpad 8
@@ -18,10 +18,12 @@
 //! # Ok::<(), examiner::Refusal>(())
 //! ```
 
+mod drawing;
 mod fields;
 pub mod raw;
 mod refusal;
 
+pub use drawing::{Drawing, DrawnFunction, DrawnVertex};
 pub use fields::{Edge, Fields, Function, Loop, Vertex, MOST_EDGES, MOST_FUNCTIONS, MOST_LOOPS, MOST_VERTICES};
 pub use refusal::{Refusal, RefusalKind};
 
@@ -69,7 +71,7 @@ fn judge(number: u32, answer: Answer) -> Result<Answer, Refusal> {
     if number == 0 {
         return Ok(answer);
     }
-    let number = RefusalKind::from_number(number).expect("the library's refusals have the numbers 1 to 17");
+    let number = RefusalKind::from_number(number).expect("the library's refusals have the numbers 1 to 20");
     Err(Refusal { number, place: answer[0] })
 }
 
@@ -111,6 +113,60 @@ pub fn write_fields(fields: &Fields, out: &mut [u8]) -> Result<usize, Refusal> {
     // SAFETY: `Fields` is laid out as its numbers, in order; it, `out` and `answer` are valid for the call; what is written to is borrowed
     // for it alone.
     let number = unsafe { raw::examiner_write_fields(places.cast(), out.as_mut_ptr(), out.len(), answer.as_mut_ptr()) };
+    Ok(judge(number, answer)?[0] as usize)
+}
+
+/// Writes the one problem of a drawn program as a file into `out`, and gives the number of bytes written. The drawing need not be lawful.
+/// Bytes of `out` past the file keep their values, and all of them on a refusal.
+///
+/// A copy of the callee follows its call vertex. Runs of the drawn program, which goes on behind a call from the call vertex without
+/// visiting it again and counts loop bounds afresh in each call, are the problem's walks, one for one, with the same cycles. So the bound
+/// of the problem holds for the drawn program. Functions keep their numbers, and a layout of the drawing is one of the problem.
+///
+/// ```
+/// use examiner::{bound, inline, Drawing, DrawnFunction, DrawnVertex, Edge, Loop, RefusalKind};
+///
+/// // function 0 calls function 1 in a loop of at most three visits to its header, vertex 1
+/// let vertex = |callee, cost| DrawnVertex { callee, cost };
+/// let caller = DrawnFunction {
+///     size: 1,
+///     load: 5,
+///     vertices: vec![vertex(None, 1), vertex(Some(1), 2), vertex(None, 1)],
+///     edges: vec![Edge { from: 0, to: 1 }, Edge { from: 1, to: 1 }, Edge { from: 1, to: 2 }],
+///     loops: vec![Loop { header: 1, last: 1, bound: 3 }],
+/// };
+/// let helper = DrawnFunction { size: 1, load: 3, vertices: vec![vertex(None, 7)], edges: vec![], loops: vec![] };
+/// let mut drawing = Drawing { scratchpad: 2, functions: vec![caller, helper] };
+///
+/// let mut out = [0; 2_091];
+/// let written = inline(&drawing, &mut out)?;
+/// let problem = &out[..written];
+/// // vertices 0 and 1 of the caller, the helper's copy, vertex 2 of the caller; the loop holds the copy
+/// assert_eq!(examiner::read(problem)?.vertices, 4);
+/// // a region for each, and both in one region
+/// assert_eq!(bound(problem, &[0, 1])?.bound, 37);
+/// assert_eq!(bound(problem, &[0, 0])?.bound, 63);
+///
+/// // the helper calls its caller
+/// drawing.functions[1].vertices = vec![vertex(Some(0), 7), vertex(None, 0)];
+/// drawing.functions[1].edges = vec![Edge { from: 0, to: 1 }];
+/// assert_eq!(inline(&drawing, &mut out).unwrap_err().number, RefusalKind::Recursive);
+/// # Ok::<(), examiner::Refusal>(())
+/// ```
+///
+/// # Errors
+/// [`OutOfRange`](RefusalKind::OutOfRange) at 0 for the scratchpad size or the number of functions; then what the lowest function whose graph
+/// is wrong breaks, [`OutOfRange`](RefusalKind::OutOfRange), [`NotAscending`](RefusalKind::NotAscending) or
+/// [`MissingEdge`](RefusalKind::MissingEdge) to [`NoEdgeBack`](RefusalKind::NoEdgeBack), with the function as place; then
+/// [`LastCalls`](RefusalKind::LastCalls), [`Recursive`](RefusalKind::Recursive), [`CountPassed`](RefusalKind::CountPassed); last
+/// [`BufferTooShort`](RefusalKind::BufferTooShort). More items than there are places for, and a callee that is no function, are
+/// [`OutOfRange`](RefusalKind::OutOfRange) like any number that is out of range.
+pub fn inline(drawing: &Drawing, out: &mut [u8]) -> Result<usize, Refusal> {
+    let mut answer = [0; 4];
+    let numbers = drawing.numbers();
+    // SAFETY: `numbers` has all places of a drawing; it, `out` and `answer` are valid for the call; what is written to is borrowed for it
+    // alone.
+    let number = unsafe { raw::examiner_inline(numbers.as_ptr(), out.as_mut_ptr(), out.len(), answer.as_mut_ptr()) };
     Ok(judge(number, answer)?[0] as usize)
 }
 

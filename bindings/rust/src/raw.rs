@@ -1,8 +1,8 @@
 //! The exports as `include/examiner.h` declares them.
 //!
 //! Each returns 0, or the number of a refusal with its place in `answer[0]`. A slice is a pointer and a length; `answer` has 4 places,
-//! `held` 32 and `fields` EXAMINER_FIELDS. Pointers are aligned, not null (a slice of length 0 apart), and do not overlap where one of them is
-//! written to.
+//! `held` 32, `fields` EXAMINER_FIELDS and `drawing` EXAMINER_DRAWING. Pointers are aligned, not null (a slice of length 0 apart), and do not
+//! overlap where one of them is written to.
 
 extern "C" {
     /// Read.
@@ -31,4 +31,7 @@ extern "C" {
 
     /// Write on any record.
     pub fn examiner_write_fields(fields: *const u32, out: *mut u8, out_length: usize, answer: *mut u64) -> u32;
+
+    /// Inline.
+    pub fn examiner_inline(drawing: *const u32, out: *mut u8, out_length: usize, answer: *mut u64) -> u32;
 }

@@ -3,7 +3,9 @@
 use std::error::Error;
 use std::fmt;
 
-/// Why an operation refused. The numbers are document 01's.
+/// Why an operation refused. The numbers are those of documents 01 and 02. Of a drawn graph, [`OutOfRange`](RefusalKind::OutOfRange),
+/// [`NotAscending`](RefusalKind::NotAscending) and [`MissingEdge`](RefusalKind::MissingEdge) to [`NoEdgeBack`](RefusalKind::NoEdgeBack)
+/// have the function as place.
 #[derive(Clone, Copy, Debug, PartialEq, Eq, PartialOrd, Ord, Hash)]
 #[repr(u32)]
 pub enum RefusalKind {
@@ -42,11 +44,17 @@ pub enum RefusalKind {
     BeyondBound = 16,
     /// 17: the walk has over 1,000,000 entries. The place is 1,000,000.
     WalkTooLong = 17,
+    /// 18: a function can reach itself by calls. The place is the lowest such function.
+    Recursive = 18,
+    /// 19: the one problem of a drawing would have more than 128 vertices, 512 edges or 32 loops. The place is 0.
+    CountPassed = 19,
+    /// 20: the last vertex of a drawn graph calls a function. The place is the lowest such function.
+    LastCalls = 20,
 }
 
 impl RefusalKind {
     /// All kinds, by ascending number.
-    pub const ALL: [RefusalKind; 17] = {
+    pub const ALL: [RefusalKind; 20] = {
         use RefusalKind::*;
         [
             EndsEarly,
@@ -66,15 +74,18 @@ impl RefusalKind {
             WrongStep,
             BeyondBound,
             WalkTooLong,
+            Recursive,
+            CountPassed,
+            LastCalls,
         ]
     };
 
-    /// Document 01's number of this kind, 1 to 17.
+    /// The number of this kind, 1 to 20.
     pub const fn number(self) -> u32 {
         self as u32
     }
 
-    /// The kind that has a number in document 01, if any has.
+    /// The kind that has a number, if any has.
     pub fn from_number(number: u32) -> Option<RefusalKind> {
         RefusalKind::ALL.get((number as usize).checked_sub(1)?).copied()
     }
@@ -99,6 +110,9 @@ impl RefusalKind {
             RefusalKind::WrongStep => "the walk does not follow the graph to its last vertex",
             RefusalKind::BeyondBound => "a stay visits a header beyond its bound",
             RefusalKind::WalkTooLong => "the walk is too long",
+            RefusalKind::Recursive => "a function can reach itself by calls",
+            RefusalKind::CountPassed => "the drawing makes too large a problem",
+            RefusalKind::LastCalls => "the last vertex of a graph calls",
         }
     }
 }
@@ -106,7 +120,7 @@ impl RefusalKind {
 /// A refusal: why, and where.
 #[derive(Clone, Copy, Debug, PartialEq, Eq, Hash)]
 pub struct Refusal {
-    /// Which of document 01's refusals it is.
+    /// Which of the refusals it is.
     pub number: RefusalKind,
     /// What it counts depends on the kind: see [`RefusalKind`].
     pub place: u64,
