@@ -1,5 +1,6 @@
-//! The worked examples of document 01, and one more.
+//! The worked examples of document 01, one more, and those of drawings.
 
+use crate::drawing::*;
 use crate::file::encode;
 use crate::problem::*;
 
@@ -38,6 +39,64 @@ pub fn s() -> Problem {
     let vertices = [(0, 10), (1, 1), (2, 100), (2, 10)];
     problem(3, &[(1, 5), (1, 3), (1, 4)], &vertices, &[(0, 1), (0, 2), (1, 3), (2, 3)], &[])
 }
+
+/// A drawing of functions of one byte each, with the load costs 5, 3 and 4 and as much room as they need.
+fn drawing(functions: Vec<DrawnFunction>) -> Drawing {
+    let loaded = |(function, load)| DrawnFunction { function: Function { size: 1, load }, ..function };
+    Drawing { scratchpad: functions.len() as u32, functions: functions.into_iter().zip([5, 3, 4]).map(loaded).collect() }
+}
+
+fn drawn(vertices: &[(u32, Option<u32>)], edges: &[(u32, u32)], loops: &[(u32, u32, u32)]) -> DrawnFunction {
+    DrawnFunction {
+        function: Function { size: 1, load: 0 },
+        vertices: vertices.iter().map(|&(cost, callee)| DrawnVertex { callee, cost }).collect(),
+        edges: edges.iter().map(|&(from, to)| Edge { from, to }).collect(),
+        loops: loops.iter().map(|&(header, last, bound)| Loop { header, last, bound }).collect(),
+    }
+}
+
+/// D1: a helper of two vertices, called twice.
+pub fn d1() -> Drawing {
+    let caller = drawn(&[(10, Some(1)), (20, Some(1)), (30, None)], &[(0, 1), (1, 2)], &[]);
+    drawing(vec![caller, drawn(&[(2, None), (3, None)], &[(0, 1)], &[])])
+}
+
+/// D2: a helper that calls another, on one of two branches.
+pub fn d2() -> Drawing {
+    let caller = drawn(&[(1, None), (2, Some(1)), (3, None)], &[(0, 1), (0, 2), (1, 2)], &[]);
+    let helper = drawn(&[(4, Some(2)), (5, None)], &[(0, 1)], &[]);
+    drawing(vec![caller, helper, drawn(&[(6, None)], &[], &[])])
+}
+
+/// D3: a helper with a loop, called at the last vertex of a loop.
+pub fn d3() -> Drawing {
+    let caller = drawn(&[(1, None), (2, None), (7, Some(1)), (1, None)], &[(0, 1), (1, 2), (1, 3), (2, 1)], &[(1, 2, 4)]);
+    drawing(vec![caller, drawn(&[(1, None), (2, None), (1, None)], &[(0, 1), (1, 1), (1, 2)], &[(1, 1, 3)])])
+}
+
+/// D4: a call at the only vertex of a loop.
+pub fn d4() -> Drawing {
+    let caller = drawn(&[(1, None), (2, Some(1)), (1, None)], &[(0, 1), (1, 1), (1, 2)], &[(1, 1, 3)]);
+    drawing(vec![caller, drawn(&[(7, None)], &[], &[])])
+}
+
+/// D5: as D4, at vertex 0, and vertex 0 of the helper heads a loop too.
+pub fn d5() -> Drawing {
+    let caller = drawn(&[(1, Some(1)), (2, None)], &[(0, 0), (0, 1)], &[(0, 0, 2)]);
+    drawing(vec![caller, drawn(&[(1, None), (1, None)], &[(0, 0), (0, 1)], &[(0, 0, 3)])])
+}
+
+/// D6: a call at the last vertex of a loop that goes round at its header.
+pub fn d6() -> Drawing {
+    let caller = drawn(&[(1, None), (2, None), (7, Some(1)), (1, None)], &[(0, 1), (1, 1), (1, 2), (2, 3)], &[(1, 2, 4)]);
+    drawing(vec![caller, drawn(&[(1, None)], &[], &[])])
+}
+
+/// The file of D4.
+pub const D4: [u8; 29] = [
+    0x01, 0x02, 0x02, 0x01, 0x05, 0x01, 0x03, 0x04, 0x00, 0x01, 0x00, 0x02, 0x01, 0x07, 0x00, 0x01, 0x04, 0x00, 0x01, 0x01, 0x02, 0x02,
+    0x01, 0x02, 0x03, 0x01, 0x01, 0x02, 0x03,
+];
 
 /// M10: a whole file of one vertex.
 pub const M10: [u8; 10] = [0x01, 0x08, 0x01, 0x08, 0x05, 0x01, 0x00, 0x0A, 0x00, 0x00];

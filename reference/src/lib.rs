@@ -9,21 +9,26 @@
 //! | greatest visit charges | [`longest::by_contraction`]: loops become edges, the innermost first | [`longest::by_states`]: the graph unfolded by its visit counts; [`longest::lawful_walks`]: every lawful walk |
 //! | the filled-in layout | [`layout::filled`]: the free regions are dealt out | [`layout::filled_in_turn`]: each function looks at all before it |
 //! | a run | [`run::simulate`]: one pass | [`run::simulate_by_looking_back`]: each visit looks at all before it |
+//! | one problem from a drawing | [`inline::recursively`]: each callee is inlined whole and moved | [`inline::by_splicing`]: one call at a time; [`stack::lawful_runs`]: every lawful run with a call stack |
 //!
 //! [`fast`] holds the quickest honest methods known to us; the benchmark measures the library against these.
 //!
-//! The six operations below take the problem as its file, as the exports of the library do.
+//! The operations below take the problem as its file, as the exports of the library do; two make such a file.
 
+pub mod drawing;
 pub mod examples;
 pub mod fast;
 pub mod file;
 pub mod graph;
+pub mod inline;
 pub mod interference;
 pub mod layout;
 pub mod longest;
 pub mod problem;
 pub mod run;
+pub mod stack;
 
+pub use drawing::{Drawing, DrawnFunction, DrawnVertex, DRAWING};
 pub use layout::Bound;
 pub use problem::{Counts, Edge, Function, Loop, Problem, Refusal, Vertex, FIELDS};
 pub use run::Run;
@@ -53,6 +58,12 @@ fn write_problem(problem: &Problem, counts: Counts, out: &mut [u8]) -> Result<us
     let room = out.get_mut(..bytes.len()).ok_or(Refusal::at(10, bytes.len()))?;
     room.copy_from_slice(&bytes);
     Ok(bytes.len())
+}
+
+/// Inline: writes the one problem of a drawing, given as its numbers, and gives the bytes written.
+pub fn inline(numbers: &drawing::Numbers, out: &mut [u8]) -> Result<usize, Refusal> {
+    let problem = inline::recursively(&inline::judge(numbers)?);
+    write_problem(&problem, problem.counts(), out)
 }
 
 /// Interference: fills a word for each vertex and function, and gives the number of words filled.

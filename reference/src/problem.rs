@@ -24,10 +24,10 @@ pub const MOST_ENTRIES: usize = 1_000_000;
 /// The places of a record: the scratchpad size, and each count followed by all the places for its items.
 pub const FIELDS: usize = 1 + (1 + 2 * MOST_FUNCTIONS) + (1 + 2 * MOST_VERTICES) + (1 + 2 * MOST_EDGES) + (1 + 3 * MOST_LOOPS);
 
-/// A refusal: document 01's number, and the place.
+/// A refusal: its number, and the place.
 #[derive(Clone, Copy, Debug, PartialEq, Eq, Hash)]
 pub struct Refusal {
-    /// 1 to 17.
+    /// 1 to 20.
     pub number: u8,
     /// What the place means depends on the number.
     pub place: u64,
