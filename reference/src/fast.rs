@@ -1,7 +1,7 @@
 //! The quickest honest methods known to us, for the benchmark.
 //!
-//! Honest: each operation starts from the bytes of the file and gives exactly what document 01 asks for, refusals and lent memory
-//! included; nothing is kept from one call to the next. The tests hold it to the plain methods of this crate.
+//! Honest: each operation starts from the bytes of the file, or the numbers of the drawing, and gives exactly what the documents ask for,
+//! refusals and lent memory included; nothing is kept from one call to the next. The tests hold it to the plain methods of this crate.
 //!
 //! - A set of vertices, functions or loops is one machine word.
 //! - Interference is a flow along the edges, in sweeps over the vertices whose rows have grown since they were last passed on.
@@ -9,6 +9,11 @@
 //!   one visited in the region of its own: one word a vertex says which functions may be the latest of their region, and one which
 //!   may not have been visited yet.
 //! - Run looks each step up in a table of all pairs of vertices, and counts visits to every vertex as if it were a header.
+//! - Inline is in a file of its own.
+
+mod inline;
+
+pub use inline::inline;
 
 use crate::layout::Bound;
 use crate::problem::{
@@ -39,6 +44,24 @@ pub struct Flat {
 }
 
 impl Flat {
+    fn empty() -> Flat {
+        Flat {
+            scratchpad: 0,
+            functions: 0,
+            vertices: 0,
+            edges: 0,
+            loops: 0,
+            size: [0; MOST_FUNCTIONS],
+            load: [0; MOST_FUNCTIONS],
+            function: [0; MOST_VERTICES],
+            cost: [0; MOST_VERTICES],
+            edge: [(0, 0); MOST_EDGES],
+            looped: [(0, 0, 0); MOST_LOOPS],
+            around: [0; MOST_VERTICES],
+            headed: [0; MOST_VERTICES],
+        }
+    }
+
     /// The numbers of functions, vertices, edges and loops.
     pub fn counts(&self) -> [usize; 4] {
         [self.functions, self.vertices, self.edges, self.loops]
@@ -91,17 +114,7 @@ pub fn read(file: &[u8]) -> Result<Flat, Refusal> {
     let mut flat = Flat {
         scratchpad: number(file, at, 1, MOST_SIZE)?,
         functions: number(file, at, 1, MOST_FUNCTIONS as u32)? as usize,
-        vertices: 0,
-        edges: 0,
-        loops: 0,
-        size: [0; MOST_FUNCTIONS],
-        load: [0; MOST_FUNCTIONS],
-        function: [0; MOST_VERTICES],
-        cost: [0; MOST_VERTICES],
-        edge: [(0, 0); MOST_EDGES],
-        looped: [(0, 0, 0); MOST_LOOPS],
-        around: [0; MOST_VERTICES],
-        headed: [0; MOST_VERTICES],
+        ..Flat::empty()
     };
     for (size, load) in flat.size.iter_mut().zip(&mut flat.load).take(flat.functions) {
         *size = number(file, at, 1, MOST_SIZE)?;

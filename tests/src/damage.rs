@@ -30,7 +30,7 @@ pub fn file_of(problem: &Problem) -> Vec<u8> {
 }
 
 /// Values at and past the ends of the ranges of the field table.
-const ODD_VALUES: [u32; 24] = [
+pub const ODD_VALUES: [u32; 24] = [
     0,
     1,
     2,

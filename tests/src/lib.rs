@@ -1,6 +1,7 @@
-//! What the tests and the benchmark share: seeded problems, layouts and walks, lawful and damaged.
+//! What the tests and the benchmark share: seeded problems, drawings, layouts and walks, lawful and damaged.
 
 pub mod damage;
+pub mod drawings;
 pub mod layouts;
 pub mod lent;
 pub mod problems;

@@ -14,28 +14,38 @@ struct Walker<'a> {
     walk: Vec<u32>,
 }
 
-impl Walker<'_> {
-    fn new(problem: &Problem) -> Walker<'_> {
-        let mut distance = vec![None; problem.vertices.len()];
-        let predecessors = problem.predecessors();
-        let mut reached = vec![problem.last_vertex()];
-        distance[problem.vertices.len() - 1] = Some(0);
-        let mut steps = 0;
-        while !reached.is_empty() {
-            steps += 1;
-            let mut further = Vec::new();
-            for vertex in reached {
-                for &before in &predecessors[vertex as usize] {
-                    if distance[before as usize].is_none() {
-                        distance[before as usize] = Some(steps);
-                        further.push(before);
-                    }
+/// For each vertex, the steps to the last one, bounds aside, if any lead there.
+pub fn distances(problem: &Problem) -> Vec<Option<usize>> {
+    let mut distance = vec![None; problem.vertices.len()];
+    let predecessors = problem.predecessors();
+    let mut reached = vec![problem.last_vertex()];
+    distance[problem.vertices.len() - 1] = Some(0);
+    let mut steps = 0;
+    while !reached.is_empty() {
+        steps += 1;
+        let mut further = Vec::new();
+        for vertex in reached {
+            for &before in &predecessors[vertex as usize] {
+                if distance[before as usize].is_none() {
+                    distance[before as usize] = Some(steps);
+                    further.push(before);
                 }
             }
-            reached = further;
         }
-        let mut walker =
-            Walker { problem, successors: problem.successors(), distance, visits: vec![0; problem.loops.len()], walk: Vec::new() };
+        reached = further;
+    }
+    distance
+}
+
+impl Walker<'_> {
+    fn new(problem: &Problem) -> Walker<'_> {
+        let mut walker = Walker {
+            problem,
+            successors: problem.successors(),
+            distance: distances(problem),
+            visits: vec![0; problem.loops.len()],
+            walk: Vec::new(),
+        };
         walker.enter(0);
         walker
     }

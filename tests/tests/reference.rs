@@ -5,6 +5,7 @@ use std::fs;
 use std::path::Path;
 
 use examiner_tests::damage::*;
+use examiner_tests::drawings::{self, DrawingPlan, Shape, DRAWING_DAMAGES};
 use examiner_tests::problems::{lawful, longest, with_total, Plan};
 use examiner_tests::random::Random;
 use examiner_tests::{effort, layouts, walks};
@@ -13,7 +14,7 @@ use reference::layout::{check, cold, contested, filled, filled_in_turn, first_lo
 use reference::longest::{by_contraction, by_states, lawful_walks};
 use reference::problem::*;
 use reference::run::{check_by_looking_back, simulate, simulate_by_looking_back};
-use reference::{fast, file, graph, interference};
+use reference::{drawing, fast, file, graph, inline, interference, stack, Drawing, DrawnFunction};
 
 /// What the operations give on bytes, by the quick methods, in the form of the plain ones.
 fn fast_read(file: &[u8]) -> Result<[usize; 4], Refusal> {
@@ -350,6 +351,139 @@ fn quick_methods_agree_with_plain_ones() {
     }
     println!("{hits:?}");
     assert!(hits.iter().all(|&times| times > 0), "{hits:?}");
+}
+
+/// A random drawing that is mostly small, and its plan.
+fn some_drawing(random: &mut Random, case: usize) -> (DrawingPlan, Drawing) {
+    let plan = match case % 20 {
+        0 => DrawingPlan::random(random, MOST_FUNCTIONS, 16),
+        1 | 2 => DrawingPlan::random(random, 4, 60),
+        _ => DrawingPlan::random(random, 8, 7),
+    };
+    let drawing = drawings::lawful(random, &plan);
+    (plan, drawing)
+}
+
+#[test]
+fn drawings_inlined_recursively_and_by_splicing() {
+    let mut random = Random::seeded(9);
+    let mut seen = BTreeMap::new();
+    let mut saw = |what: &'static str, it: bool| *seen.entry(what).or_insert(0) += usize::from(it);
+    for case in 0..6_000 * effort() {
+        let (plan, drawing) = some_drawing(&mut random, case);
+        let mut numbers = drawing.to_numbers();
+        drawings::fill_spare_places(&mut random, &mut numbers);
+        let fits = drawings::fits(&drawing);
+        assert_eq!(inline::judge(&numbers), if fits { Ok(drawing.clone()) } else { Err(Refusal { number: 19, place: 0 }) });
+        saw("a drawing that passes a count", !fits);
+        if !fits {
+            continue;
+        }
+        let problem = inline::recursively(&drawing);
+        assert_eq!(problem, inline::by_splicing(&drawing), "{drawing:?}");
+        // lawful, and written as Inline says
+        let file = file_of(&problem);
+        assert_eq!(reference::read(&file), Ok(problem.clone()), "{drawing:?}");
+        let mut out = vec![0xA5; file.len() + 3];
+        assert_eq!(reference::inline(&numbers, &mut out), Ok(file.len()));
+        assert_eq!(out, [&file[..], &[0xA5; 3]].concat());
+        assert_eq!(drawings::sizes(&drawing)[0] as usize, problem.vertices.len());
+
+        let reached = |function: u32| problem.vertices.iter().any(|v| v.function == function);
+        let used = || drawing.functions.iter().zip(0..).filter(|(_, function)| reached(*function)).map(|(drawn, _)| drawn);
+        let calls = |pick: &dyn Fn(&DrawnFunction, u32) -> bool| {
+            used().any(|drawn| (0..drawn.vertices.len() as u32).any(|v| drawn.callee_of(v).is_some() && pick(drawn, v)))
+        };
+        saw("a call at vertex 0", calls(&|_, vertex| vertex == 0));
+        saw("a call in a header", calls(&|drawn, vertex| drawn.loops.iter().any(|l| l.header == vertex && l.last > vertex)));
+        saw("a call at a loop's last vertex", calls(&|drawn, vertex| drawn.loops.iter().any(|l| l.last == vertex && l.header < vertex)));
+        saw("a call that is a loop", calls(&|drawn, vertex| drawn.loops.iter().any(|l| l.last == vertex && l.header == vertex)));
+        saw("a function that nothing reaches", used().count() < drawing.functions.len());
+        let callers = |callee: u32| used().filter(|drawn| drawn.vertices.iter().any(|v| v.callee == Some(callee))).count();
+        saw("a helper of three functions", (0..drawing.functions.len() as u32).any(|callee| callers(callee) >= 3));
+        saw("a helper called twice by one function", used().any(|drawn| has_a_pair(drawn.vertices.iter().filter_map(|v| v.callee))));
+        saw("five functions, each calling the next", plan.shape == Shape::Deep && used().count() >= 5);
+        saw("five helpers of one function", plan.shape == Shape::Wide && used().count() >= 6);
+        saw("over 100 vertices", problem.vertices.len() > 100);
+    }
+    for (what, times) in seen {
+        println!("{times:6}  {what}");
+        assert!(times > 50, "there was hardly ever {what}");
+    }
+}
+
+fn has_a_pair(numbers: impl Iterator<Item = u32>) -> bool {
+    let mut numbers: Vec<u32> = numbers.collect();
+    numbers.sort_unstable();
+    numbers.windows(2).any(|pair| pair[0] == pair[1])
+}
+
+#[test]
+fn runs_with_a_call_stack_are_the_walks_of_the_one_problem() {
+    let mut random = Random::seeded(10);
+    let (mut compared, mut pairs, mut deepest) = (0, 0, 0);
+    for _ in 0..6_000 * effort() {
+        let plan = DrawingPlan { fits: true, ..DrawingPlan::random(&mut random, 5, 5) };
+        let drawing = drawings::lawful(&mut random, &plan);
+        let problem = inline::recursively(&drawing);
+        let mut expected = Vec::new();
+        if !lawful_walks(&problem, 2_000, &mut |walk| expected.push(walk.to_vec())) {
+            continue;
+        }
+        let layout = layouts::lawful(&mut random, plan.functions);
+        let regions = filled(&layout, plan.functions);
+        let mut walks = Vec::new();
+        let all = stack::lawful_runs(&drawing, usize::MAX, &mut |run| {
+            let walk = drawings::walk_of(&drawing, run);
+            assert_eq!(stack::simulate(&drawing, &regions, run), simulate(&problem, &regions, &walk), "{drawing:?} {walk:?}");
+            deepest = deepest.max(run.iter().map(Vec::len).max().unwrap_or(0));
+            walks.push(walk);
+        });
+        assert!(all);
+        // each walk once
+        expected.sort_unstable();
+        walks.sort_unstable();
+        assert_eq!(walks, expected, "{drawing:?}");
+        compared += 1;
+        pairs += walks.len();
+    }
+    println!("{compared} drawings with {pairs} runs in all, the deepest of {deepest} activations");
+    assert!(compared > 2_000 && pairs > 20_000 && deepest >= 4);
+}
+
+#[test]
+fn drawings_inlined_quickly() {
+    let mut random = Random::seeded(11);
+    let mut hits = [0; 21];
+    let mut agree = |random: &mut Random, numbers: &drawing::Numbers| {
+        let length = if random.percent(20) { random.count(0..=120) } else { 2_100 };
+        let mut plain = vec![0xA5; length];
+        let mut quick = plain.clone();
+        let written = reference::inline(numbers, &mut plain);
+        assert_eq!(fast::inline(numbers, &mut quick), written, "{:?}", inline::judge(numbers));
+        assert_eq!(plain, quick);
+        hits[written.err().map_or(0, |refusal| usize::from(refusal.number))] += 1;
+    };
+    for case in 0..4_000 * effort() {
+        let (_, drawing) = some_drawing(&mut random, case);
+        agree(&mut random, &drawing.to_numbers());
+        for turn in 0..3 {
+            let damaged = drawings::damaged(&mut random, &drawing, (3 * case + turn) as u32 % DRAWING_DAMAGES);
+            let mut numbers = damaged.to_numbers();
+            drawings::fill_spare_places(&mut random, &mut numbers);
+            agree(&mut random, &numbers);
+        }
+        let mut numbers = drawing.to_numbers();
+        drawings::fill_spare_places(&mut random, &mut numbers);
+        for _ in 0..3 {
+            drawings::damage_numbers(&mut random, &mut numbers);
+            agree(&mut random, &numbers);
+        }
+    }
+    println!("{hits:?}");
+    for number in [0, 3, 4, 6, 7, 8, 9, 10, 18, 19, 20] {
+        assert!(hits[number] > 100, "{number}: {hits:?}");
+    }
 }
 
 /// What stands between the bars in the rows of the Markdown tables of a text.
