@@ -183,7 +183,7 @@ pub fn fill_spare_places(random: &mut Random, numbers: &mut Numbers) {
             for place in places {
                 let any = random.any();
                 let high = (any >> 32) as u32;
-                *place = if any % 2 == 0 { high } else { ODD_VALUES[high as usize % ODD_VALUES.len()] };
+                *place = if any & 1 == 0 { high } else { ODD_VALUES[high as usize % ODD_VALUES.len()] };
             }
         };
         if function >= functions {

@@ -1,7 +1,7 @@
-//! The library held to the independent implementation on seeded problems, layouts and walks, lawful and damaged.
+//! The library held to the independent implementation on seeded problems, drawings, layouts and walks, lawful and damaged.
 //!
 //! Each call goes through the exports themselves, with guards around all lent memory, and through the safe wrapper. The returned
-//! number, the place, the results and every byte of lent memory, guards and inputs included, must be what document 01 says.
+//! number, the place, the results and every byte of lent memory, guards and inputs included, must be what the documents say.
 //! It prints what it compared; it fails at the first difference, and where some refusal was never met.
 //!
 //! CASES=10 in the environment tries ten times as many cases.
@@ -12,18 +12,58 @@ use std::process::exit;
 use std::time::Instant;
 
 use examiner_tests::damage::*;
+use examiner_tests::drawings::{self, drawn, DrawingPlan, DRAWING_DAMAGES};
 use examiner_tests::lent::Lent;
 use examiner_tests::problems::{lawful, longest, with_total, Amounts, Plan};
 use examiner_tests::random::Random;
 use examiner_tests::{effort, layouts, walks};
-use reference::examples::{p, q, r, M10};
+use reference::drawing::{graph_of, Numbers, GRAPH};
+use reference::examples::{d1, d2, d3, d4, d5, d6, p, q, r, D4, M10};
 use reference::problem::*;
+use reference::{stack, Drawing, DrawnFunction, DrawnVertex, Run};
 
 const SHORT: &str = "an accepted layout that is short";
 const SHORT_WITH_GAP: &str = "an accepted layout that is short, with a gap below a listed region";
 const WALK_WITH_GAP: &str = "a lawful walk under a short layout with a gap below a listed region";
-/// How often some cases are met at least: a few layouts would not do to tell how they are filled in.
-const LEAST: [(&str, usize); 3] = [(SHORT, 10_000), (SHORT_WITH_GAP, 5_000), (WALK_WITH_GAP, 1_000)];
+const INLINED: &str = "a drawing that is inlined";
+const CALL_AT_0: &str = "an inlined drawing with a call at vertex 0";
+const CALL_IN_HEADER: &str = "an inlined drawing with a call in a header";
+const CALL_AT_LAST: &str = "an inlined drawing with a call at the last vertex of a loop";
+const UNREACHED: &str = "an inlined drawing with a function that nothing reaches";
+const SHARED: &str = "an inlined drawing with a helper that several functions call";
+const DRAWN_RUN: &str = "a run with a call stack that is a lawful walk of the one problem";
+const DEEP_RUN: &str = "such a run, four activations deep";
+const DRAWN_RUN_FILLED: &str = "such a run under a short layout";
+/// What drawings are refused for.
+const DRAWING_REFUSED: [(u8, &str); 10] = [
+    (3, "a drawing refused 3"),
+    (4, "a drawing refused 4"),
+    (6, "a drawing refused 6"),
+    (7, "a drawing refused 7"),
+    (8, "a drawing refused 8"),
+    (9, "a drawing refused 9"),
+    (10, "a drawing refused 10"),
+    (18, "a drawing refused 18"),
+    (19, "a drawing refused 19"),
+    (20, "a drawing refused 20"),
+];
+/// How often some cases are met at least: a few layouts would not do to tell how they are filled in, nor a few drawings how they are inlined.
+const LEAST: [(&str, usize); 12] = [
+    (SHORT, 10_000),
+    (SHORT_WITH_GAP, 5_000),
+    (WALK_WITH_GAP, 1_000),
+    (INLINED, 10_000),
+    (CALL_AT_0, 2_000),
+    (CALL_IN_HEADER, 1_000),
+    (CALL_AT_LAST, 1_000),
+    (UNREACHED, 2_000),
+    (SHARED, 500),
+    (DRAWN_RUN, 5_000),
+    (DEEP_RUN, 300),
+    (DRAWN_RUN_FILLED, 1_000),
+];
+/// How often drawings are refused for each of these at least.
+const LEAST_REFUSED: usize = 200;
 
 /// Calls both implementations and counts.
 struct Comparison {
@@ -31,7 +71,7 @@ struct Comparison {
     /// Calls of each export.
     calls: BTreeMap<&'static str, usize>,
     /// Refusals by number; at 0 the calls that were not refused.
-    met: [usize; 18],
+    met: [usize; 21],
     /// Cases worth counting.
     seen: BTreeMap<&'static str, usize>,
     /// What was asked last, to be shown where the two differ.
@@ -45,6 +85,7 @@ struct Asked {
     layout: Vec<u8>,
     walk: Vec<u32>,
     fields: Vec<u32>,
+    drawing: Vec<(DrawnFunction, Counts)>,
 }
 
 impl Asked {
@@ -53,6 +94,9 @@ impl Asked {
         eprintln!("layout  {:?}", self.layout);
         eprintln!("walk    {} entries, the first of them {:?}", self.walk.len(), &self.walk[..self.walk.len().min(500)]);
         eprintln!("fields  {:?}", self.fields);
+        for (function, drawn) in self.drawing.iter().enumerate() {
+            eprintln!("drawn   {function}: {drawn:?}");
+        }
     }
 }
 
@@ -66,7 +110,7 @@ fn plain<T>(result: Result<T, examiner::Refusal>) -> Result<T, Refusal> {
 
 impl Comparison {
     fn new() -> Comparison {
-        Comparison { random: Random::seeded(0), calls: BTreeMap::new(), met: [0; 18], seen: BTreeMap::new(), asked: Asked::default() }
+        Comparison { random: Random::seeded(0), calls: BTreeMap::new(), met: [0; 21], seen: BTreeMap::new(), asked: Asked::default() }
     }
 
     fn saw(&mut self, what: &'static str, it: bool) {
@@ -146,6 +190,109 @@ impl Comparison {
         assert_eq!((&out, &wrapper_out, &lent), (&wanted, &wanted, &before));
     }
 
+    /// Inline into so many bytes: the file, if there is one.
+    fn inline(&mut self, numbers: &Numbers, length: usize) -> Option<Vec<u8>> {
+        let graphs = numbers[2..].chunks(GRAPH).take(numbers[1] as usize).map(|graph| graph_of(graph, numbers[1]));
+        self.asked = Asked { fields: numbers[..2].to_vec(), drawing: graphs.collect(), ..Asked::default() };
+        let lent = Lent::holding(&mut self.random, numbers);
+        let mut out = Lent::random(&mut self.random, length);
+        let mut wrapper_out = out.clone();
+        let mut wanted = out.clone();
+        let written = reference::inline(numbers, wanted.part_mut());
+        let before = lent.clone();
+        let (part, room) = (lent.part(), out.part_mut());
+        // SAFETY: `part` has all places of a drawing; all are valid for the call, and apart.
+        self.call("examiner_inline", &written.map(|bytes| vec![bytes as u64]), |answer| unsafe {
+            examiner::raw::examiner_inline(part.as_ptr(), room.as_mut_ptr(), room.len(), answer)
+        });
+        if let Some(drawing) = wrapped_drawing(numbers) {
+            assert_eq!(plain(examiner::inline(&drawing, wrapper_out.part_mut())), written);
+            assert_eq!(wrapper_out, wanted);
+        }
+        assert_eq!((&out, &lent), (&wanted, &before));
+        self.saw(INLINED, written.is_ok());
+        for (number, what) in DRAWING_REFUSED {
+            self.saw(what, written.is_err_and(|refusal| refusal.number == number));
+        }
+        written.ok().map(|bytes| out.part()[..bytes].to_vec())
+    }
+
+    /// A drawing with any values in its spare places, mostly into bytes enough.
+    fn drawing(&mut self, drawing: &Drawing) -> Option<Vec<u8>> {
+        let mut numbers = drawing.to_numbers();
+        if self.random.percent(70) {
+            drawings::fill_spare_places(&mut self.random, &mut numbers);
+        }
+        let needed = reference::inline(&numbers, &mut [0; 2_091]).unwrap_or(40);
+        let length = match self.random.count(0..=9) {
+            0 => self.random.count(0..=needed - 1),
+            1 => needed,
+            _ => needed + self.random.count(1..=9),
+        };
+        self.inline(&numbers, length)
+    }
+
+    /// A lawful drawing, runs of it with a call stack, and walks through its one problem.
+    fn lawful_drawing(&mut self, plan: &DrawingPlan, most: usize) {
+        let mut drawing = drawings::lawful(&mut self.random, plan);
+        let layout = layouts::lawful(&mut self.random, plan.functions);
+        if drawings::fits(&drawing) {
+            let mut problem = reference::inline::recursively(&drawing);
+            layouts::fit_scratchpad(&mut self.random, &mut problem, &layout);
+            drawing.scratchpad = problem.scratchpad;
+            self.inlined(&drawing, &problem);
+        }
+        let Some(file) = self.drawing(&drawing) else { return };
+        self.read(&file);
+        for turn in 0..3 {
+            let layout = if turn == 0 { layout.clone() } else { layouts::lawful(&mut self.random, plan.functions) };
+            let length = self.random.count(1..=most);
+            if let Some(run) = drawings::lawful_run(&mut self.random, &drawing, length, 2 * most + 200) {
+                self.drawn_run(&drawing, &file, &layout, &run);
+            }
+        }
+        let problem = reference::read(&file).expect("accepted");
+        let walk = walks::wandering(&mut self.random, &problem, most, 2 * most + 200);
+        self.layout_and_walk(&file, &layout, &walk);
+    }
+
+    /// A lawful run of the drawn program is a lawful walk of the one problem, with the same cycles, loads and functions held in the end, and
+    /// takes no longer than the bound.
+    fn drawn_run(&mut self, drawing: &Drawing, file: &[u8], layout: &[u8], run: &[stack::Stack]) {
+        let walk = drawings::walk_of(drawing, run);
+        let bound = self.bound(file, layout);
+        let Some(walked) = self.run(file, layout, &walk) else {
+            // the layout does not fit; the walk is never at fault
+            assert!(reference::run(file, layout, &walk).is_err_and(|refusal| refusal.number == 13));
+            return;
+        };
+        let functions = drawing.functions.len();
+        let simulated = stack::simulate(drawing, &reference::layout::filled(layout, functions), run);
+        assert_eq!(walked, simulated, "the walk is the left, the run with a call stack the right");
+        self.saw(DRAWN_RUN, true);
+        self.saw(DEEP_RUN, run.iter().any(|stack| stack.len() >= 4));
+        self.saw(DRAWN_RUN_FILLED, layout.len() < functions);
+        if let Some(bound) = bound {
+            assert!(simulated.cycles <= bound, "a run of {} cycles passes the bound {bound}", simulated.cycles);
+            self.saw("such a run that takes all of its bound", simulated.cycles == bound);
+        }
+    }
+
+    /// Counts what lawful drawings are like.
+    fn inlined(&mut self, drawing: &Drawing, problem: &Problem) {
+        let reached = |function: usize| problem.vertices.iter().any(|v| v.function as usize == function);
+        let used: Vec<&DrawnFunction> = drawing.functions.iter().enumerate().filter(|(f, _)| reached(*f)).map(|(_, drawn)| drawn).collect();
+        let calls = |pick: &dyn Fn(&DrawnFunction, u32) -> bool| {
+            used.iter().any(|drawn| (0..=drawn.last_vertex()).any(|v| drawn.callee_of(v).is_some() && pick(drawn, v)))
+        };
+        let callers = |callee: u32| used.iter().filter(|drawn| drawn.vertices.iter().any(|v| v.callee == Some(callee))).count();
+        self.saw(CALL_AT_0, calls(&|_, vertex| vertex == 0));
+        self.saw(CALL_IN_HEADER, calls(&|drawn, vertex| drawn.loops.iter().any(|l| l.header == vertex)));
+        self.saw(CALL_AT_LAST, calls(&|drawn, vertex| drawn.loops.iter().any(|l| l.last == vertex)));
+        self.saw(UNREACHED, used.len() < drawing.functions.len());
+        self.saw(SHARED, (0..drawing.functions.len() as u32).any(|callee| callers(callee) > 1));
+    }
+
     fn interference(&mut self, file: &[u8], length: usize) {
         self.asked = Asked { file: file.to_vec(), ..Asked::default() };
         let lent = Lent::holding(&mut self.random, file);
@@ -202,7 +349,7 @@ impl Comparison {
         self.saw(WALK_WITH_GAP, layout.len() < functions && layouts::has_gap(layout));
     }
 
-    fn run(&mut self, file: &[u8], layout: &[u8], walk: &[u32]) -> Option<u64> {
+    fn run(&mut self, file: &[u8], layout: &[u8], walk: &[u32]) -> Option<Run> {
         self.asked = Asked { file: file.to_vec(), layout: layout.to_vec(), walk: walk.to_vec(), ..Asked::default() };
         let (lent, lent_layout) = (Lent::holding(&mut self.random, file), Lent::holding(&mut self.random, layout));
         let lent_walk = Lent::holding(&mut self.random, walk);
@@ -237,12 +384,12 @@ impl Comparison {
         if run.is_ok() {
             self.walked(file, layout);
         }
-        run.ok().map(|run| run.cycles)
+        run.ok()
     }
 
     /// Bound and Run with one layout and one walk. Where both give their results, no run is longer than the bound.
     fn layout_and_walk(&mut self, file: &[u8], layout: &[u8], walk: &[u32]) {
-        if let (Some(bound), Some(cycles)) = (self.bound(file, layout), self.run(file, layout, walk)) {
+        if let (Some(bound), Some(Run { cycles, .. })) = (self.bound(file, layout), self.run(file, layout, walk)) {
             assert!(cycles <= bound, "a run of {cycles} cycles passes the bound {bound}");
             self.saw("a run within its bound", cycles < bound);
             self.saw("a run that takes all of its bound", cycles == bound);
@@ -350,6 +497,31 @@ fn wrapped_fields(fields: &[u32; FIELDS]) -> examiner::Fields {
         *l = Loop { header: fields[place], last: fields[place + 1], bound: fields[place + 2] };
     }
     wrapped
+}
+
+/// A drawing in the wrapper's form, with more items than there are places where a count says so; nothing where there would be very many.
+fn wrapped_drawing(numbers: &Numbers) -> Option<examiner::Drawing> {
+    /// So many items, the first of them these.
+    fn counted<T: Default + Clone>(count: u32, items: impl Iterator<Item = T>) -> Option<Vec<T>> {
+        let mut items: Vec<T> = items.collect();
+        items.resize(usize::try_from(count).ok().filter(|&count| count <= 1_000)?, T::default());
+        Some(items)
+    }
+    let wrapped = |graph: &[u32]| {
+        let (drawn, counts) = graph_of(graph, numbers[1]);
+        let vertex = |v: &DrawnVertex| examiner::DrawnVertex { callee: v.callee, cost: v.cost };
+        let edge = |e: &Edge| examiner::Edge { from: e.from, to: e.to };
+        let looped = |l: &Loop| examiner::Loop { header: l.header, last: l.last, bound: l.bound };
+        Some(examiner::DrawnFunction {
+            size: drawn.function.size,
+            load: drawn.function.load,
+            vertices: counted(counts.vertices, drawn.vertices.iter().map(vertex))?,
+            edges: counted(counts.edges, drawn.edges.iter().map(edge))?,
+            loops: counted(counts.loops, drawn.loops.iter().map(looped))?,
+        })
+    };
+    let functions: Option<Vec<examiner::DrawnFunction>> = numbers[2..].chunks(GRAPH).take(numbers[1] as usize).map(wrapped).collect();
+    Some(examiner::Drawing { scratchpad: numbers[0], functions: counted(numbers[1], functions?.into_iter())? })
 }
 
 fn small_lawful_problems(c: &mut Comparison) {
@@ -670,6 +842,138 @@ fn long_walks(c: &mut Comparison) {
     }
 }
 
+fn small_drawings(c: &mut Comparison) {
+    for _ in 0..8_000 * effort() {
+        let plan = DrawingPlan::random(&mut c.random, 8, 7);
+        c.lawful_drawing(&plan, 60);
+    }
+}
+
+fn drawings_of_any_size(c: &mut Comparison) {
+    for case in 0..800 * effort() {
+        let plan = match case % 10 {
+            0 => DrawingPlan::random(&mut c.random, MOST_FUNCTIONS, MOST_VERTICES),
+            1 | 2 => DrawingPlan::random(&mut c.random, 4, 60),
+            _ => DrawingPlan::random(&mut c.random, MOST_FUNCTIONS, 16),
+        };
+        c.lawful_drawing(&plan, 400);
+    }
+}
+
+fn damaged_drawings(c: &mut Comparison) {
+    for case in 0..2_500 * effort() {
+        let plan = match case % 20 {
+            0 => DrawingPlan::random(&mut c.random, MOST_FUNCTIONS, 30),
+            _ => DrawingPlan::random(&mut c.random, 6, 8),
+        };
+        let drawing = drawings::lawful(&mut c.random, &plan);
+        for damage in 0..DRAWING_DAMAGES {
+            let damaged = drawings::damaged(&mut c.random, &drawing, damage);
+            c.drawing(&damaged);
+        }
+        let mut numbers = drawing.to_numbers();
+        drawings::fill_spare_places(&mut c.random, &mut numbers);
+        for _ in 0..3 {
+            drawings::damage_numbers(&mut c.random, &mut numbers);
+            c.inline(&numbers, 2_091);
+        }
+    }
+    let mut numbers = d1().to_numbers();
+    for _ in 0..100 {
+        numbers.iter_mut().for_each(|number| *number = c.random.field(0..=4));
+        c.inline(&numbers, 100);
+        numbers.iter_mut().for_each(|number| *number = c.random.any() as u32);
+        c.inline(&numbers, 100);
+    }
+}
+
+/// A chain whose vertices call these, and one vertex more that calls nothing.
+fn chain(callees: &[Option<u32>]) -> DrawnFunction {
+    let vertices = callees.iter().chain(&[None]).map(|&callee| DrawnVertex { callee, cost: 1 }).collect();
+    let edges = (0..callees.len() as u32).map(|from| Edge { from, to: from + 1 }).collect();
+    DrawnFunction { function: Function { size: 1, load: 1 }, vertices, edges, loops: vec![] }
+}
+
+/// The worked drawings, each count at its limit and one past it, and each number of a drawing at the ends of its range.
+fn limits_of_drawings(c: &mut Comparison) {
+    for drawing in [d1(), d2(), d3(), d4(), d5(), d6()] {
+        let bytes = reference::inline(&drawing.to_numbers(), &mut [0; 2_091]).expect("lawful");
+        for length in 0..=bytes + 2 {
+            c.inline(&drawing.to_numbers(), length);
+        }
+    }
+    assert_eq!(c.inline(&d4().to_numbers(), 29), Some(D4.to_vec()));
+
+    let mut verdict = |functions: Vec<DrawnFunction>, what: &'static str, expected: Result<Counts, u8>| {
+        let numbers = Drawing { scratchpad: 99, functions }.to_numbers();
+        let counted = c.inline(&numbers, 2_091).map(|file| reference::read(&file).expect("lawful").counts());
+        let refused = reference::inline::judge(&numbers).err().map_or(0, |refusal| refusal.number);
+        assert_eq!(counted.ok_or(refused), expected, "{what}");
+        c.saw(what, true);
+    };
+    let counts = |functions, vertices, edges, loops| Ok(Counts { functions, vertices, edges, loops });
+    let calls = |times: usize, more: usize| chain(&[vec![Some(1); times], vec![None; more]].concat());
+    verdict(vec![calls(42, 1), chain(&[None])], "128 vertices by calls", counts(2, 128, 127, 0));
+    verdict(vec![calls(42, 2), chain(&[None])], "129 vertices by calls", Err(19));
+    let full = |vertices: u32| {
+        let edges = (0..vertices).flat_map(|from| (from + 1..vertices).map(move |to| Edge { from, to })).collect();
+        DrawnFunction { edges, ..chain(&vec![None; vertices as usize - 1]) }
+    };
+    verdict(vec![calls(2, 2), full(23)], "512 edges by calls", counts(2, 51, 512, 0));
+    verdict(vec![calls(2, 3), full(23)], "513 edges by calls", Err(19));
+    let one_loop = || DrawnFunction {
+        edges: vec![Edge { from: 0, to: 0 }, Edge { from: 0, to: 1 }],
+        loops: vec![Loop { header: 0, last: 0, bound: 2 }],
+        ..chain(&[None])
+    };
+    verdict(vec![calls(32, 0), one_loop()], "32 loops by calls", counts(2, 97, 128, 32));
+    verdict(vec![calls(33, 0), one_loop()], "33 loops by calls", Err(19));
+    let mut tower: Vec<DrawnFunction> = (1..32).map(|next| chain(&[Some(next); 127])).collect();
+    tower.push(chain(&[]));
+    verdict(tower.clone(), "127 calls of the next function, 31 functions deep", Err(19));
+    tower[0] = chain(&[]);
+    verdict(tower.clone(), "such a tower that function 0 does not call", counts(32, 1, 0, 0));
+    let mut stairs: Vec<DrawnFunction> = (1..32).map(|next| chain(&[Some(next), None, None])).collect();
+    stairs.push(chain(&[None, None, None]));
+    verdict(stairs.clone(), "32 activations at once, and 128 vertices", counts(32, 128, 127, 0));
+    stairs[31] = chain(&[Some(0), None, None]);
+    verdict(stairs, "a circle of 32 functions", Err(18));
+    verdict(vec![chain(&[]); 32], "32 functions drawn", counts(32, 1, 0, 0));
+    verdict(vec![chain(&[]); 33], "33 functions drawn", Err(3));
+    verdict(vec![], "no function drawn", Err(3));
+    verdict(vec![chain(&[]), chain(&[None; 127])], "128 vertices drawn", counts(2, 1, 0, 0));
+    verdict(vec![chain(&[]), chain(&[None; 128])], "129 vertices drawn", Err(3));
+    for (last_callee, refused) in [(254, 3), (256, 3), (2, 3), (1, 20), (0, 20)] {
+        let mut last = chain(&[None]);
+        last.vertices[1].callee = Some(last_callee);
+        verdict(vec![chain(&[None]), last], "an odd callee at a last vertex", Err(refused));
+    }
+
+    every_number_of_a_drawing(c);
+    // the largest problems, as drawings that call nothing, and called from one vertex
+    for _ in 0..10 * effort() {
+        let plan = Plan::largest(&mut c.random);
+        let problem = lawful(&mut c.random, &plan);
+        let drawing = Drawing { scratchpad: 99, functions: vec![drawn(&problem); 32] };
+        let file = c.drawing(&drawing);
+        c.saw("all counts of a drawing at their greatest", file.is_some() && problem.edges.len() == MOST_EDGES);
+        let called = Drawing { scratchpad: 99, functions: vec![chain(&[Some(1)]), drawn(&problem)] };
+        c.drawing(&called);
+    }
+}
+
+/// Each number of D3 that counts, at odd values, as far as the independent implementation has something to say about it.
+fn every_number_of_a_drawing(c: &mut Comparison) {
+    let numbers = d3().to_numbers();
+    for place in (0..2 + 2 * GRAPH).filter(|&place| numbers[place] != 0 || place < 20) {
+        for value in ODD_VALUES.into_iter().chain([254, numbers[place].wrapping_add(1), numbers[place].wrapping_sub(1)]) {
+            let mut changed = numbers.clone();
+            changed[place] = value;
+            c.inline(&changed, 100);
+        }
+    }
+}
+
 /// Null pointers with length 0.
 fn empty_slices(c: &mut Comparison) {
     use examiner::raw;
@@ -683,6 +987,8 @@ fn empty_slices(c: &mut Comparison) {
         let fields = p().to_fields();
         let needed = file_of(&p()).len() as u64;
         c.call("examiner_write_fields", &refused(10, needed), |answer| raw::examiner_write_fields(fields.as_ptr(), null_mut(), 0, answer));
+        let drawing = d4().to_numbers();
+        c.call("examiner_inline", &refused(10, 29), |answer| raw::examiner_inline(drawing.as_ptr(), null_mut(), 0, answer));
         c.call("examiner_interference", &refused(10, 1), |answer| raw::examiner_interference(M10.as_ptr(), 10, null_mut(), 0, answer));
         c.call("examiner_bound", &Ok(vec![8, 0, 5, 15]), |answer| raw::examiner_bound(M10.as_ptr(), 10, null(), 0, answer));
         {
@@ -697,7 +1003,7 @@ fn empty_slices(c: &mut Comparison) {
 fn main() {
     let mut comparison = Comparison::new();
     type Group = fn(&mut Comparison);
-    // the quick ones first
+    // the quick ones first, of files and of drawings
     let groups: &[(&str, Group)] = &[
         ("empty slices", empty_slices),
         ("random small graphs", any_small_graph),
@@ -713,6 +1019,10 @@ fn main() {
         ("broken rules", broken_rules),
         ("problems of any size", problems_of_any_size),
         ("problems at every greatest count", problems_at_every_greatest_count),
+        ("limits of drawings", limits_of_drawings),
+        ("small drawings", small_drawings),
+        ("damaged drawings", damaged_drawings),
+        ("drawings of any size", drawings_of_any_size),
     ];
     for (index, (name, group)) in groups.iter().enumerate() {
         let started = Instant::now();
@@ -746,8 +1056,8 @@ fn main() {
     for (what, times) in &comparison.seen {
         assert!(*times > 0, "there was never {what}");
     }
-    for (what, least) in LEAST {
+    for (what, least) in LEAST.into_iter().chain(DRAWING_REFUSED.map(|(_, what)| (what, LEAST_REFUSED))) {
         assert!(comparison.seen[what] >= least, "there was too seldom {what}");
     }
-    println!("\n{} calls agree; every refusal from 1 to 17 was met", comparison.calls.values().sum::<usize>());
+    println!("\n{} calls agree; every refusal from 1 to 20 was met", comparison.calls.values().sum::<usize>());
 }

@@ -94,13 +94,13 @@ fn judge(graph: Graph, functions: u32, flat: &mut Flat) -> Result<u32, u8> {
 fn callees_first(called: &[u32]) -> Result<[u8; MOST_FUNCTIONS], Refusal> {
     let mut order = [0; MOST_FUNCTIONS];
     let mut taken = 0u32;
-    for place in 0..called.len() {
+    for place in order.iter_mut().take(called.len()) {
         let ready = |&function: &usize| taken >> function & 1 == 0 && called[function] & !taken == 0;
         let Some(function) = (0..called.len()).rev().find(ready) else {
             return Err(Refusal::at(18, lowest_on_a_circle(called)));
         };
         taken |= 1 << function;
-        order[place] = function as u8;
+        *place = function as u8;
     }
     Ok(order)
 }
