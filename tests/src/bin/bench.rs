@@ -1,16 +1,19 @@
 //! The library against the quickest honest methods of the independent implementation, in one run.
 //!
-//! Both start from the bytes of the file at each call, on the same inputs, in turns. Build it for release.
+//! Both start from the bytes of the file, or the numbers of the drawing, at each call, on the same inputs, in turns. Build it for release.
 
 use std::hint::black_box;
 use std::time::{Duration, Instant};
 
 use examiner_tests::damage::file_of;
+use examiner_tests::drawings::drawn;
 use examiner_tests::problems::{lawful, Amounts, Plan};
 use examiner_tests::random::Random;
 use examiner_tests::walks;
+use reference::drawing::Numbers;
 use reference::fast;
 use reference::problem::*;
+use reference::{Drawing, DrawnFunction};
 
 /// Turns that each of the two takes; the median counts.
 const TURNS: usize = 201;
@@ -114,11 +117,73 @@ fn largest() -> Plan {
     }
 }
 
+/// A lawful drawing as its numbers, with the file of its one problem.
+struct Sketch {
+    name: &'static str,
+    numbers: Box<Numbers>,
+    file: Vec<u8>,
+}
+
+/// The drawing of these graphs, where `calls` has for each function some vertices with the functions that they call.
+fn sketch(name: &'static str, mut functions: Vec<DrawnFunction>, calls: &dyn Fn(usize) -> Vec<(usize, usize)>) -> Sketch {
+    for (function, drawn) in functions.iter_mut().enumerate() {
+        for (vertex, callee) in calls(function) {
+            drawn.vertices[vertex].callee = Some(callee as u32);
+        }
+    }
+    let numbers = Drawing { scratchpad: MOST_SIZE, functions }.to_numbers();
+    let mut file = vec![0; 2_091];
+    let written = reference::inline(&numbers, &mut file).expect("lawful");
+    file.truncate(written);
+    Sketch { name, numbers, file }
+}
+
+/// So many graphs of a plan with all the edges that it asks for, by ascending seeds.
+fn graphs(count: usize, plan: &Plan) -> Vec<DrawnFunction> {
+    let problems = (1..).map(|seed| lawful(&mut Random::seeded(seed), plan));
+    problems.filter(|problem| problem.edges.len() == plan.edges).take(count).map(|problem| drawn(&problem)).collect()
+}
+
+/// 32 full graphs. Function 0 calls nothing, since it has all the vertices that the result may have; of the others every second vertex calls.
+fn full_graphs() -> Sketch {
+    sketch("32 full graphs", graphs(MOST_FUNCTIONS, &largest()), &|function| {
+        let behind = MOST_FUNCTIONS - 1 - function;
+        let callers = (0..MOST_VERTICES - 1).step_by(2).filter(|_| function > 0 && behind > 0);
+        callers.map(|vertex| (vertex, function + 1 + vertex / 2 % behind)).collect()
+    })
+}
+
+/// Four graphs of 20 vertices: function 0 calls functions 1 and 2, and each of these calls function 3.
+fn four_graphs() -> Sketch {
+    let plan = Plan { vertices: 20, edges: 40, loops: 4, ..largest() };
+    sketch("four graphs of 20 vertices", graphs(4, &plan), &|function| match function {
+        0 => vec![(6, 1), (13, 2)],
+        1 | 2 => vec![(9, 3)],
+        _ => vec![],
+    })
+}
+
 /// The median times of the library and of the reference.
 type Times = (f64, f64);
 
 fn read(subject: &Subject) -> Times {
     measure(&mut || _ = black_box(examiner::read(black_box(&subject.file))), &mut || _ = black_box(fast::read(black_box(&subject.file))))
+}
+
+fn inline(sketch: &Sketch) -> Times {
+    let mut library_out = vec![0u8; 2_091];
+    let mut reference_out = library_out.clone();
+    let (numbers, mut answer) = (&sketch.numbers, [0u64; 4]);
+    let mut library = || {
+        let (numbers, out) = (black_box(numbers), black_box(&mut library_out));
+        // SAFETY: a drawing has all its places; it, `out` and `answer` are valid for the call, and apart.
+        let number = unsafe { examiner::raw::examiner_inline(numbers.as_ptr(), out.as_mut_ptr(), out.len(), answer.as_mut_ptr()) };
+        black_box(number);
+    };
+    let times = measure(&mut library, &mut || _ = black_box(fast::inline(black_box(numbers), black_box(&mut reference_out))));
+    assert_eq!(answer[0], sketch.file.len() as u64);
+    assert!(library_out.starts_with(&sketch.file) && reference_out.starts_with(&sketch.file));
+    times
 }
 
 fn interference(subject: &Subject) -> Times {
@@ -157,9 +222,18 @@ fn run(subject: &Subject) -> Times {
     })
 }
 
-fn row(operation: &str, subject: &Subject, (library, reference): Times, note: impl Fn(f64, f64) -> String) {
-    let (ratio, note) = (library / reference, note(library, reference));
-    println!("| {operation} | {} | {} | {} | {ratio:.2} | {note} |", subject.name, micros(library), micros(reference));
+fn row(operation: &str, subject: &Subject, times: Times, note: impl Fn(f64, f64) -> String) {
+    named_row(operation, &subject.name, times, &note(times.0, times.1));
+}
+
+fn named_row(operation: &str, name: &str, (library, reference): Times, note: &str) {
+    println!("| {operation} | {name} | {} | {} | {:.2} | {note} |", micros(library), micros(reference), library / reference);
+}
+
+fn row_of_a_drawing(sketch: &Sketch) {
+    let counts = reference::read(&sketch.file).expect("lawful").counts();
+    let note = format!("{} vertices, {} edges and {} loops in {} bytes", counts.vertices, counts.edges, counts.loops, sketch.file.len());
+    named_row("Inline", sketch.name, inline(sketch), &note);
 }
 
 /// Bound where every function has a region of its own, which the layout lists or which is filled in.
@@ -181,7 +255,7 @@ fn main() {
     }
     println!("Median of {TURNS} turns of at least {} µs each, the two in turns; one thread.", TURN.as_micros());
     println!("The reference is the independent implementation by its quickest methods, built for release.");
-    println!("Every call starts from the bytes of the problem file. Buffers are not cleared between repetitions.\n");
+    println!("Every call starts from the bytes of the problem file, or the numbers of the drawing. Buffers are not cleared between repetitions.\n");
 
     let full = |problem: &Problem| problem.edges.len() == MOST_EDGES;
     let subjects = [
@@ -209,6 +283,12 @@ fn main() {
         row("Run", subject, run(subject), |library, reference| {
             format!("1,000,000 entries: {:.2} ns a step, reference {:.2}", library * 1e3, reference * 1e3)
         });
+    }
+
+    println!("\n| operation | drawing | library | reference | ratio | the one problem |");
+    println!("|---|---|---|---|---|---|");
+    for sketch in [full_graphs(), four_graphs()] {
+        row_of_a_drawing(&sketch);
     }
 
     println!("\nHow the library's cost grows; in brackets its ratio to the reference.\n");
