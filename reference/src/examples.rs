@@ -98,6 +98,39 @@ pub const D4: [u8; 29] = [
     0x01, 0x02, 0x03, 0x01, 0x01, 0x02, 0x03,
 ];
 
+/// A chain whose vertices call these, and behind them a vertex that calls nothing.
+pub fn chain(callees: &[Option<u32>]) -> DrawnFunction {
+    let vertices: Vec<_> = callees.iter().chain(&[None]).map(|&callee| (1, callee)).collect();
+    let edges: Vec<_> = (0..callees.len() as u32).map(|from| (from, from + 1)).collect();
+    drawn(&vertices, &edges, &[])
+}
+
+/// Drawings whose one problem has a count at its limit or one past it, or very many vertices where it is too deep: with their names, and the
+/// true counts of vertices, edges and loops, or the greatest `u128`.
+pub fn at_limits() -> Vec<(&'static str, Drawing, [u128; 3])> {
+    let calls = |times: usize, more: usize| chain(&[vec![Some(1); times], vec![None; more]].concat());
+    let upwards: Vec<_> = (0..23).flat_map(|from| (from + 1..23).map(move |to| (from, to))).collect();
+    let every_edge = || drawn(&[(1, None); 23], &upwards, &[]);
+    let one_loop = || drawn(&[(1, None); 2], &[(0, 0), (0, 1)], &[(0, 0, 2)]);
+    let mut tower: Vec<DrawnFunction> = (1..32).map(|next| chain(&[Some(next); 127])).collect();
+    tower.push(chain(&[]));
+    let below_a_leaf = [&[chain(&[])], &tower[1..]].concat();
+    let mut stairs: Vec<DrawnFunction> = (1..32).map(|next| chain(&[Some(next), None, None])).collect();
+    stairs.push(chain(&[None, None, None]));
+    let cases = [
+        ("128 vertices by calls", vec![calls(42, 1), chain(&[None])], [128, 127, 0]),
+        ("129 vertices by calls", vec![calls(42, 2), chain(&[None])], [129, 128, 0]),
+        ("512 edges by calls", vec![calls(2, 2), every_edge()], [51, 512, 0]),
+        ("513 edges by calls", vec![calls(2, 3), every_edge()], [52, 513, 0]),
+        ("32 loops by calls", vec![calls(32, 0), one_loop()], [97, 128, 32]),
+        ("33 loops by calls", vec![calls(33, 0), one_loop()], [100, 132, 33]),
+        ("32 activations at once, in 128 vertices", stairs, [128, 127, 0]),
+        ("a tower of calls, 127 of the next function in each of 31", tower, [u128::MAX, u128::MAX, 0]),
+        ("a tower of calls that function 0 does not reach", below_a_leaf, [1, 0, 0]),
+    ];
+    cases.map(|(name, functions, counts)| (name, Drawing { scratchpad: 99, functions }, counts)).to_vec()
+}
+
 /// M10: a whole file of one vertex.
 pub const M10: [u8; 10] = [0x01, 0x08, 0x01, 0x08, 0x05, 0x01, 0x00, 0x0A, 0x00, 0x00];
 

@@ -1,10 +1,10 @@
 //! The worked drawings D1 to D6, what drawings are refused for, and counts at the limits.
 
 use reference::drawing::Numbers;
-use reference::examples::{d1, d2, d3, d4, d5, d6, D4};
+use reference::examples::{at_limits, chain, d1, d2, d3, d4, d5, d6, D4};
 use reference::inline::{by_splicing, judge, recursively, true_counts};
 use reference::stack::{lawful_runs, number, simulate};
-use reference::{bound, inline, read, run, Drawing, DrawnFunction, DrawnVertex, Edge, Function, Loop, Problem, Refusal};
+use reference::{bound, inline, read, run, Drawing, DrawnFunction, DrawnVertex, Function, Loop, Problem, Refusal};
 
 fn refused(number: u8, place: u64) -> Refusal {
     Refusal { number, place }
@@ -102,13 +102,6 @@ fn d6_a_loop_that_ends_behind_its_call() {
     results_in(&d6(), "0:1 0:2 0:7 1:1 0:1; 0-1 1-1 1-2 2-3 3-4; 1 to 3 bound 4");
 }
 
-/// A chain whose vertices call these, and one vertex more.
-fn chain(callees: &[Option<u32>]) -> DrawnFunction {
-    let vertices = callees.iter().chain(&[None]).map(|&callee| DrawnVertex { callee, cost: 1 }).collect();
-    let edges = (0..callees.len() as u32).map(|from| Edge { from, to: from + 1 }).collect();
-    DrawnFunction { function: Function { size: 1, load: 1 }, vertices, edges, loops: vec![] }
-}
-
 fn drawing(functions: Vec<DrawnFunction>) -> Drawing {
     Drawing { scratchpad: 40, functions }
 }
@@ -148,42 +141,14 @@ fn the_order_of_refusals() {
 
 #[test]
 fn counts_at_their_limits() {
-    let two = || chain(&[None]);
-    let calls = |times: usize, more: usize| chain(&[vec![Some(1); times], vec![None; more]].concat());
-    let counts = |drawing: &Drawing| true_counts(drawing, 0, &mut vec![None; drawing.functions.len()]);
-    let at = |drawing: Drawing, counted: [u128; 3]| {
-        assert_eq!(counts(&drawing), counted);
-        let problem = recursively(&judge(&drawing.to_numbers()).expect("not passed"));
-        assert_eq!([problem.vertices.len(), problem.edges.len(), problem.loops.len()].map(|count| count as u128), counted);
-    };
-    let past = |drawing: Drawing, counted: [u128; 3]| {
-        assert_eq!(counts(&drawing), counted);
-        assert_eq!(refusal_of(&drawing), refused(19, 0));
-    };
-    at(drawing(vec![calls(42, 1), two()]), [128, 127, 0]);
-    past(drawing(vec![calls(42, 2), two()]), [129, 128, 0]);
-
-    // every edge upwards
-    let full = |vertices: u32| {
-        let edges = (0..vertices).flat_map(|from| (from + 1..vertices).map(move |to| Edge { from, to })).collect();
-        DrawnFunction { edges, ..chain(&vec![None; vertices as usize - 1]) }
-    };
-    at(drawing(vec![calls(2, 2), full(23)]), [51, 512, 0]);
-    past(drawing(vec![calls(2, 3), full(23)]), [52, 513, 0]);
-
-    let one_loop = DrawnFunction {
-        edges: [(0, 0), (0, 1)].map(|(from, to)| Edge { from, to }).to_vec(),
-        loops: vec![Loop { header: 0, last: 0, bound: 2 }],
-        ..two()
-    };
-    at(drawing(vec![calls(32, 0), one_loop.clone()]), [97, 128, 32]);
-    past(drawing(vec![calls(33, 0), one_loop]), [100, 132, 33]);
-
-    // each calls the next 127 times
-    let mut tower: Vec<DrawnFunction> = (1..32).map(|next| chain(&[Some(next); 127])).collect();
-    tower.push(chain(&[]));
-    assert_eq!(counts(&drawing(tower.clone()))[0], u128::MAX);
-    assert_eq!(refusal_of(&drawing(tower.clone())), refused(19, 0));
-    tower[0] = chain(&[]);
-    at(drawing(tower), [1, 0, 0]);
+    for (name, drawing, counts) in at_limits() {
+        assert_eq!(true_counts(&drawing, 0, &mut vec![None; drawing.functions.len()]), counts, "{name}");
+        let [vertices, edges, loops] = counts;
+        if vertices > 128 || edges > 512 || loops > 32 {
+            assert_eq!(refusal_of(&drawing), refused(19, 0), "{name}");
+            continue;
+        }
+        let problem = recursively(&judge(&drawing.to_numbers()).expect("no count is passed"));
+        assert_eq!([problem.vertices.len(), problem.edges.len(), problem.loops.len()].map(|count| count as u128), counts, "{name}");
+    }
 }

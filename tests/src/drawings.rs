@@ -175,25 +175,28 @@ const LISTS: [(usize, usize, usize); 3] = {
     [(2, 2, MOST_VERTICES), (edges, 2, MOST_EDGES), (loops, 3, MOST_LOOPS)]
 };
 
-/// Gives the spare places of a drawing any values: those past a count, and those of functions that there are none of.
-pub fn fill_spare_places(random: &mut Random, numbers: &mut Numbers) {
-    let functions = numbers[1] as usize;
-    for (function, graph) in numbers[2..].chunks_mut(GRAPH).enumerate() {
-        let mut fill = |places: &mut [u32]| {
-            for place in places {
-                let any = random.any();
-                let high = (any >> 32) as u32;
-                *place = if any & 1 == 0 { high } else { ODD_VALUES[high as usize % ODD_VALUES.len()] };
-            }
-        };
-        if function >= functions {
-            fill(graph);
-            continue;
-        }
+/// The places of a drawing that are not spare: those of its functions, up to each count.
+pub fn counted_places(numbers: &Numbers) -> Vec<usize> {
+    let mut places = vec![0, 1];
+    for function in 0..(numbers[1] as usize).min(MOST_FUNCTIONS) {
+        let graph = 2 + GRAPH * function;
+        places.extend([graph, graph + 1]);
         for (count, width, most) in LISTS {
-            let used = (graph[count] as usize).min(most);
-            fill(&mut graph[count + 1 + width * used..count + 1 + width * most]);
+            let used = width * (numbers[graph + count] as usize).min(most);
+            places.extend(graph + count..=graph + count + used);
         }
+    }
+    places
+}
+
+/// Gives the spare places of a drawing any values.
+pub fn fill_spare_places(random: &mut Random, numbers: &mut Numbers) {
+    let mut spare = vec![true; DRAWING];
+    counted_places(numbers).into_iter().for_each(|place| spare[place] = false);
+    for (number, _) in numbers.iter_mut().zip(spare).filter(|(_, spare)| *spare) {
+        let any = random.any();
+        let high = (any >> 32) as u32;
+        *number = if any & 1 == 0 { high } else { ODD_VALUES[high as usize % ODD_VALUES.len()] };
     }
 }
 

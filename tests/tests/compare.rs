@@ -18,7 +18,7 @@ use examiner_tests::problems::{lawful, longest, with_total, Amounts, Plan};
 use examiner_tests::random::Random;
 use examiner_tests::{effort, layouts, walks};
 use reference::drawing::{graph_of, Numbers, GRAPH};
-use reference::examples::{d1, d2, d3, d4, d5, d6, p, q, r, D4, M10};
+use reference::examples::{at_limits, chain, d1, d2, d3, d4, d5, d6, p, q, r, D4, M10};
 use reference::problem::*;
 use reference::{stack, Drawing, DrawnFunction, DrawnVertex, Run};
 
@@ -31,9 +31,9 @@ const CALL_IN_HEADER: &str = "an inlined drawing with a call in a header";
 const CALL_AT_LAST: &str = "an inlined drawing with a call at the last vertex of a loop";
 const UNREACHED: &str = "an inlined drawing with a function that nothing reaches";
 const SHARED: &str = "an inlined drawing with a helper that several functions call";
-const DRAWN_RUN: &str = "a run with a call stack that is a lawful walk of the one problem";
-const DEEP_RUN: &str = "such a run, four activations deep";
-const DRAWN_RUN_FILLED: &str = "such a run under a short layout";
+const DRAWN_RUN: &str = "a run with a call stack, as a lawful walk of the one problem";
+const DEEP_RUN: &str = "a run with a call stack, four activations deep";
+const DRAWN_RUN_FILLED: &str = "a run with a call stack, under a short layout";
 /// What drawings are refused for.
 const DRAWING_REFUSED: [(u8, &str); 10] = [
     (3, "a drawing refused 3"),
@@ -274,7 +274,7 @@ impl Comparison {
         self.saw(DRAWN_RUN_FILLED, layout.len() < functions);
         if let Some(bound) = bound {
             assert!(simulated.cycles <= bound, "a run of {} cycles passes the bound {bound}", simulated.cycles);
-            self.saw("such a run that takes all of its bound", simulated.cycles == bound);
+            self.saw("a run with a call stack, that takes all of its bound", simulated.cycles == bound);
         }
     }
 
@@ -887,13 +887,6 @@ fn damaged_drawings(c: &mut Comparison) {
     }
 }
 
-/// A chain whose vertices call these, and one vertex more that calls nothing.
-fn chain(callees: &[Option<u32>]) -> DrawnFunction {
-    let vertices = callees.iter().chain(&[None]).map(|&callee| DrawnVertex { callee, cost: 1 }).collect();
-    let edges = (0..callees.len() as u32).map(|from| Edge { from, to: from + 1 }).collect();
-    DrawnFunction { function: Function { size: 1, load: 1 }, vertices, edges, loops: vec![] }
-}
-
 /// The worked drawings, each count at its limit and one past it, and each number of a drawing at the ends of its range.
 fn limits_of_drawings(c: &mut Comparison) {
     for drawing in [d1(), d2(), d3(), d4(), d5(), d6()] {
@@ -904,49 +897,28 @@ fn limits_of_drawings(c: &mut Comparison) {
     }
     assert_eq!(c.inline(&d4().to_numbers(), 29), Some(D4.to_vec()));
 
-    let mut verdict = |functions: Vec<DrawnFunction>, what: &'static str, expected: Result<Counts, u8>| {
+    for (name, drawing, counts) in at_limits() {
+        let [vertices, edges, loops] = counts;
+        let file = c.inline(&drawing.to_numbers(), 2_091);
+        assert_eq!(file.is_some(), vertices <= 128 && edges <= 512 && loops <= 32);
+        c.saw(name, true);
+    }
+    let mut refused = |functions: Vec<DrawnFunction>, what: &'static str, number: u8| {
         let numbers = Drawing { scratchpad: 99, functions }.to_numbers();
-        let counted = c.inline(&numbers, 2_091).map(|file| reference::read(&file).expect("lawful").counts());
-        let refused = reference::inline::judge(&numbers).err().map_or(0, |refusal| refusal.number);
-        assert_eq!(counted.ok_or(refused), expected, "{what}");
+        assert_eq!(reference::inline::judge(&numbers).err().map_or(0, |refusal| refusal.number), number, "{what}");
+        c.inline(&numbers, 2_091);
         c.saw(what, true);
     };
-    let counts = |functions, vertices, edges, loops| Ok(Counts { functions, vertices, edges, loops });
-    let calls = |times: usize, more: usize| chain(&[vec![Some(1); times], vec![None; more]].concat());
-    verdict(vec![calls(42, 1), chain(&[None])], "128 vertices by calls", counts(2, 128, 127, 0));
-    verdict(vec![calls(42, 2), chain(&[None])], "129 vertices by calls", Err(19));
-    let full = |vertices: u32| {
-        let edges = (0..vertices).flat_map(|from| (from + 1..vertices).map(move |to| Edge { from, to })).collect();
-        DrawnFunction { edges, ..chain(&vec![None; vertices as usize - 1]) }
-    };
-    verdict(vec![calls(2, 2), full(23)], "512 edges by calls", counts(2, 51, 512, 0));
-    verdict(vec![calls(2, 3), full(23)], "513 edges by calls", Err(19));
-    let one_loop = || DrawnFunction {
-        edges: vec![Edge { from: 0, to: 0 }, Edge { from: 0, to: 1 }],
-        loops: vec![Loop { header: 0, last: 0, bound: 2 }],
-        ..chain(&[None])
-    };
-    verdict(vec![calls(32, 0), one_loop()], "32 loops by calls", counts(2, 97, 128, 32));
-    verdict(vec![calls(33, 0), one_loop()], "33 loops by calls", Err(19));
-    let mut tower: Vec<DrawnFunction> = (1..32).map(|next| chain(&[Some(next); 127])).collect();
-    tower.push(chain(&[]));
-    verdict(tower.clone(), "127 calls of the next function, 31 functions deep", Err(19));
-    tower[0] = chain(&[]);
-    verdict(tower.clone(), "such a tower that function 0 does not call", counts(32, 1, 0, 0));
-    let mut stairs: Vec<DrawnFunction> = (1..32).map(|next| chain(&[Some(next), None, None])).collect();
-    stairs.push(chain(&[None, None, None]));
-    verdict(stairs.clone(), "32 activations at once, and 128 vertices", counts(32, 128, 127, 0));
-    stairs[31] = chain(&[Some(0), None, None]);
-    verdict(stairs, "a circle of 32 functions", Err(18));
-    verdict(vec![chain(&[]); 32], "32 functions drawn", counts(32, 1, 0, 0));
-    verdict(vec![chain(&[]); 33], "33 functions drawn", Err(3));
-    verdict(vec![], "no function drawn", Err(3));
-    verdict(vec![chain(&[]), chain(&[None; 127])], "128 vertices drawn", counts(2, 1, 0, 0));
-    verdict(vec![chain(&[]), chain(&[None; 128])], "129 vertices drawn", Err(3));
-    for (last_callee, refused) in [(254, 3), (256, 3), (2, 3), (1, 20), (0, 20)] {
+    refused(vec![chain(&[]); 32], "32 functions drawn", 0);
+    refused(vec![chain(&[]); 33], "33 functions drawn", 3);
+    refused(vec![], "no function drawn", 3);
+    refused(vec![chain(&[]), chain(&[None; 127])], "128 vertices drawn", 0);
+    refused(vec![chain(&[]), chain(&[None; 128])], "129 vertices drawn", 3);
+    refused((1..=32).map(|next| chain(&[Some(next % 32)])).collect(), "a circle of 32 functions", 18);
+    for (callee, number) in [(254, 3), (256, 3), (2, 3), (1, 20), (0, 20)] {
         let mut last = chain(&[None]);
-        last.vertices[1].callee = Some(last_callee);
-        verdict(vec![chain(&[None]), last], "an odd callee at a last vertex", Err(refused));
+        last.vertices[1].callee = Some(callee);
+        refused(vec![chain(&[None]), last], "an odd callee at a last vertex", number);
     }
 
     every_number_of_a_drawing(c);
@@ -962,10 +934,10 @@ fn limits_of_drawings(c: &mut Comparison) {
     }
 }
 
-/// Each number of D3 that counts, at odd values, as far as the independent implementation has something to say about it.
+/// Each number of D3 at odd values.
 fn every_number_of_a_drawing(c: &mut Comparison) {
     let numbers = d3().to_numbers();
-    for place in (0..2 + 2 * GRAPH).filter(|&place| numbers[place] != 0 || place < 20) {
+    for place in drawings::counted_places(&numbers) {
         for value in ODD_VALUES.into_iter().chain([254, numbers[place].wrapping_add(1), numbers[place].wrapping_sub(1)]) {
             let mut changed = numbers.clone();
             changed[place] = value;
