@@ -52,7 +52,7 @@ const LEAST: [(&str, usize); 12] = [
     (SHORT, 10_000),
     (SHORT_WITH_GAP, 5_000),
     (WALK_WITH_GAP, 1_000),
-    (INLINED, 10_000),
+    (INLINED, 8_000),
     (CALL_AT_0, 2_000),
     (CALL_IN_HEADER, 1_000),
     (CALL_AT_LAST, 1_000),
