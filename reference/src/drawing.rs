@@ -65,11 +65,6 @@ impl DrawnFunction {
         }
     }
 
-    /// The numbers of items, where there are so many functions.
-    pub fn counts(&self, functions: u32) -> Counts {
-        Counts { functions, vertices: self.vertices.len() as u32, edges: self.edges.len() as u32, loops: self.loops.len() as u32 }
-    }
-
     /// The numbers of a graph, every spare place zero. A count is as it is, even where items have no place.
     fn to_numbers(&self) -> Vec<u32> {
         let mut numbers = vec![self.function.size, self.function.load];

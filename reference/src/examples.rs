@@ -105,8 +105,8 @@ pub fn chain(callees: &[Option<u32>]) -> DrawnFunction {
     drawn(&vertices, &edges, &[])
 }
 
-/// Drawings whose one problem has a count at its limit or one past it, or very many vertices where it is too deep: with their names, and the
-/// true counts of vertices, edges and loops, or the greatest `u128`.
+/// Drawings whose one problem has a count at its limit, one past it, or past every machine number: with their names, and the true counts of
+/// vertices, edges and loops, which stop at the greatest `u128`.
 pub fn at_limits() -> Vec<(&'static str, Drawing, [u128; 3])> {
     let calls = |times: usize, more: usize| chain(&[vec![Some(1); times], vec![None; more]].concat());
     let upwards: Vec<_> = (0..23).flat_map(|from| (from + 1..23).map(move |to| (from, to))).collect();
