@@ -5,3 +5,4 @@ pub mod Tables
 pub mod Reading
 pub mod Means
 pub mod Examples
+pub mod Drawn
