@@ -28,7 +28,7 @@ use Rattle.writing.specs.Fits.{Fits}
 use Rattle.file.proofs.NumbersRead.{size-read, checked-read}
 use Rattle.checks.proofs.Opened.{good, checks-problem, refused-as}
 use Rattle.checks.specs.Steps.{checkNumbers}
-use Rattle.file.specs.Steps.{NumbersRead}
+use Rattle.file.specs.Steps.{NumbersRead, WrittenAs}
 
 -- Reading, where the fields left the answer f and the numbers l.
 module _ (s : List ℕ) (f : FieldsAnswer) (l : List ℕ) (is : scanned f l ≡ readFields s) where
@@ -61,7 +61,7 @@ module _ (s l : List ℕ) (v : Verdict) (r : NumbersRead s l v) where
   pub whole-problem : v ≡ verdict.Accepted → (p : Problem) → p ≡ problemOf l → read.Accepted p ≡ readFile s
   whole-problem e p z = ap read.Accepted z ∙ ap (λ (x : Verdict). readVerdict x (problemOf l)) (sym e) ∙ r .answer
 
--- Write, where the problem's numbers are l, its checks gave f, and the buffer holds buf.
+-- Write, where the problem's numbers are l and its checks gave f: they refused it, or gave the file's length.
 module _ (p : Problem) (l buf : List ℕ) (numbered : Numbered p l) (f : FieldsAnswer) (is : f ≡ checkNumbers l) where
   writes : (g : FieldsAnswer) → f ≡ g → writeChecked g (length buf) ≡ writeProblem p (length buf)
   unfolding writeProblem
@@ -76,43 +76,33 @@ module _ (p : Problem) (l buf : List ℕ) (numbered : Numbered p l) (f : FieldsA
       let a : write.Refused x ≡ writeProblem p (length buf) = writes _ (refused-as f x e) in
       (a, holds _ a)
 
-  module _ (need : ℕ) (e : f ≡ fields.Done need) where
-    pub too-short : length buf < need → (write.Refused (refusal.BufferTooShort need) ≡ writeProblem p (length buf)) × (buf ≡ writtenBuffer p buf)
-    too-short h =
-        let a : write.Refused (refusal.BufferTooShort need) ≡ writeProblem p (length buf) = simp (lt-ltb (length buf) need h) at (writes _ e) in
-        (a, holds _ a)
+-- The end of Write, whichever problem the numbers are of.
+module _ (l buf : List ℕ) (need : ℕ) (passed : checkNumbers l ≡ fields.Done need) where
+  pub too-short : length buf < need → (p : Problem) → Numbered p l → WrittenAs p buf buf (write.Refused (refusal.BufferTooShort need))
+  too-short h p numbered =
+      let a : write.Refused (refusal.BufferTooShort need) ≡ writeProblem p (length buf) = simp (lt-ltb (length buf) need h) at (writes p l buf numbered (checkNumbers l) refl _ passed) in
+      record { answer = a; buffer = holds p l buf numbered (checkNumbers l) refl _ a }
 
-    checked : checkFields l ≡ fields.Done need
-    unfolding checkNumbers
-    checked = good (checkFields l) (problemOf l) need (sym is ∙ e) .fields
+  checked : checkFields l ≡ fields.Done need
+  unfolding checkNumbers
+  checked = good (checkFields l) (problemOf l) need passed .fields
 
-    module _ (h : need ≤ length buf) where
-      pub fits : Fits l buf
-      fits = record { need = need; checked = checked; room = h }
+  module _ (h : need ≤ length buf) where
+    pub fits : Fits l buf
+    fits = record { need = need; checked = checked; room = h }
 
-      pub written : (n : ℕ) (after : List ℕ) → fields.Done n ≡ checkFields l → after ≡ sets buf 0 (fileBytes l) →
-          (write.Written n ≡ writeProblem p (length buf)) × (after ≡ writtenBuffer p buf)
-      written n after d w =
-          let same : fields.Done n ≡ fields.Done need = d ∙ checked in
-          let count : n ≡ need = cc in
-          let a : write.Written n ≡ writeProblem p (length buf) = rw count (simp (le-ltb (length buf) need h) at (writes _ e)) in
-          (a, w ∙ ap (λ (x : List ℕ). sets buf 0 (fileBytes x)) (numbered .is) ∙ holds _ a)
+    pub written : (n : ℕ) (after : List ℕ) → fields.Done n ≡ checkFields l → after ≡ sets buf 0 (fileBytes l) → (p : Problem) → Numbered p l → WrittenAs p buf after (write.Written n)
+    written n after d w p numbered =
+        let same : fields.Done n ≡ fields.Done need = d ∙ checked in
+        let count : n ≡ need = cc in
+        let a : write.Written n ≡ writeProblem p (length buf) = rw count (simp (le-ltb (length buf) need h) at (writes p l buf numbered (checkNumbers l) refl _ passed)) in
+        record { answer = a; buffer = w ∙ ap (λ (x : List ℕ). sets buf 0 (fileBytes x)) (numbered .is) ∙ holds p l buf numbered (checkNumbers l) refl _ a }
 
--- Write, where the problem's numbers are checked and their file has this length.
-module _ (l buf : List ℕ) (ok : Checked l) (need : ℕ) (length-is : checkFields l ≡ fields.Done need) where
-  own : Numbered (problemOf l) l
+-- Checked numbers are a problem's own, and their checks end with the length of their file.
+module _ (l : List ℕ) (ok : Checked l) (need : ℕ) (length-is : checkFields l ≡ fields.Done need) where
+  pub own : Numbered (problemOf l) l
   own = record { is = sym (numbers-of-problem l (ok .size) (field-facts l need length-is .edition)); sized = sized-problem l }
 
-  passes : checkNumbers l ≡ fields.Done need
+  pub passes : checkNumbers l ≡ fields.Done need
   unfolding checkNumbers
   passes = ap (λ (f : FieldsAnswer). afterFields f (problemOf l)) length-is ∙ ap (λ (v : Verdict). afterGraph v need) (ok .graph)
-
-  pub checked-short : length buf < need → (write.Refused (refusal.BufferTooShort need) ≡ writeProblem (problemOf l) (length buf)) × (buf ≡ writtenBuffer (problemOf l) buf)
-  checked-short = too-short (problemOf l) l buf own (checkNumbers l) refl need passes
-
-  pub checked-fits : need ≤ length buf → Fits l buf
-  checked-fits = fits (problemOf l) l buf own (checkNumbers l) refl need passes
-
-  pub checked-written : need ≤ length buf → (n : ℕ) (after : List ℕ) → fields.Done n ≡ checkFields l → after ≡ sets buf 0 (fileBytes l) →
-      (write.Written n ≡ writeProblem (problemOf l) (length buf)) × (after ≡ writtenBuffer (problemOf l) buf)
-  checked-written = written (problemOf l) l buf own (checkNumbers l) refl need passes

@@ -9,11 +9,15 @@ use model::WriteAnswer;
 use model::places;
 ghost use mathlib.Core.Path.{_≡_};
 ghost use lib.ListN.{length, replicate};
+ghost use Rattle.model.specs.declared.Problem.{Problem};
+ghost use Rattle.model.specs.declared.FieldsAnswer.the-variants.{Done};
 ghost use Rattle.model.specs.File.{numberCount};
 ghost use Rattle.model.specs.Numbers.{problemOf};
 ghost use Rattle.model.specs.Operations.{readFile, writeProblem, writtenBuffer, Checked};
 ghost use Rattle.model.specs.Outcomes.{readOutcome, writeOutcome, readSays, writeSays};
-ghost use Rattle.file.specs.Steps.{NumbersRead};
+ghost use Rattle.numbers.specs.Numbered.{Numbered};
+ghost use Rattle.checks.specs.Steps.{checkNumbers};
+ghost use Rattle.file.specs.Steps.{NumbersRead, WrittenAs};
 
 // Reads a file's numbers into places that are all zero. Where Read accepts, they are its problem's, and they have passed the problem's own checks: an
 // operation on a file goes on with them.
@@ -44,6 +48,18 @@ pub fn read(bytes: &[u8]) -> ReadAnswer
     ReadAnswer::Accepted(records::problem_of(&numbers))
 }
 
+// 10, or the file at the front of the buffer, of numbers that passed the checks and whose file has this length.
+fn put_file(numbers: &Numbers, need: usize, buf: &mut [u8]) -> WriteAnswer
+    requires { ⌜ checkNumbers (now numbers) ≡ Done need ⌝ }
+    ensures { λ r. ⌜ ((p : Problem) → Numbered p (now (numbers .entry)) → WrittenAs p (now (buf .entry)) (now (buf .exit)) r) ⌝ }
+{
+    if buf.len() < need {
+        return WriteAnswer::Refused(Refusal::BufferTooShort(need as u64));
+    }
+    let written = writing::write_fields(buf, numbers);
+    WriteAnswer::Written(written)
+}
+
 // **Write.** Writes the problem's file at the front of the buffer, or refuses and leaves the buffer as it is.
 pub fn write(problem: Problem, buf: &mut [u8]) -> WriteAnswer
     ensures { λ r. ⌜ r ≡ writeProblem problem (length (now (buf .entry))) ⌝ ∗ ⌜ now (buf .exit) ≡ writtenBuffer problem (now (buf .entry)) ⌝ }
@@ -54,11 +70,7 @@ pub fn write(problem: Problem, buf: &mut [u8]) -> WriteAnswer
     let FieldsAnswer::Done(need) = checked else {
         return WriteAnswer::Refused(model::refusal_in(checks::verdict_of(checked)));
     };
-    if buf.len() < need {
-        return WriteAnswer::Refused(Refusal::BufferTooShort(need as u64));
-    }
-    let written = writing::write_fields(buf, &numbers);
-    WriteAnswer::Written(written)
+    put_file(&numbers, need, buf)
 }
 
 // Write of a problem whose numbers passed its checks: an operation that goes on with a problem's numbers ends so.
@@ -67,10 +79,6 @@ pub fn write_checked(numbers: &Numbers, buf: &mut [u8]) -> WriteAnswer
     ensures { λ r. ⌜ r ≡ writeProblem (problemOf (now (numbers .entry))) (length (now (buf .entry))) ⌝ }
     ensures { λ r. ⌜ now (buf .exit) ≡ writtenBuffer (problemOf (now (numbers .entry))) (now (buf .entry)) ⌝ }
 {
-    let length = checks::file_length(numbers);
-    if buf.len() < length {
-        return WriteAnswer::Refused(Refusal::BufferTooShort(length as u64));
-    }
-    let bytes = writing::write_fields(buf, numbers);
-    WriteAnswer::Written(bytes)
+    let need = checks::file_length(numbers);
+    put_file(numbers, need, buf)
 }

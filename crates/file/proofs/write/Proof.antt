@@ -1,9 +1,9 @@
--- `write` meets Write's definition: the problem's checks, the buffer's room, the file.
+-- `write` meets Write's definition: the problem's checks, and then what `put_file` says of the problem.
 use mathlib.Core.Path.{sym, ap, _∙_}
 use Rattle.model.specs.Verdicts.{asVerdict}
 use Rattle.model.specs.Outcomes.{writeOutcome}
 use Rattle.model.proofs.Answers.{equal-outcome}
-use Rattle.file.proofs.Stages.{not-written, too-short, fits, written}
+use Rattle.file.proofs.Stages.{not-written}
 use borrow.Author.Needs.{needs}
 use Rattle.file.proofs.write.Statement.{statement}
 use Rattle.file.proofs.write.Tie as tie
@@ -18,12 +18,8 @@ refused c = c .before .before .before
 abbrev passed : tie.After-known-told → tie.After-check
 passed c = c .before .before .before
 
--- The buffer has room for it.
-abbrev room : tie.Else1 → tie.After-known-told
-room c = c .before
-
-abbrev stored : tie.After-write-fields → tie.Else1
-stored c = c .before .before .before
+abbrev measured : tie.After-put-file-arg → tie.After-known-told
+measured c = c .before .before
 
 numbers-of-requires : tie.Need-numbers-of-requires
 numbers-of-requires c κs = search needs
@@ -50,32 +46,17 @@ returns c =
     equal-outcome writeOutcome
     (not-written _ _ _ (numbered k .numbers-of .ensures) _ (k .check .ensures) _ (sym (told .verdict-of .ensures) ∙ c .refusal-in .ensures))
 
-returns-2 : tie.Need-returns-2
-returns-2 c =
-    let t = c .before in
-    let k = passed t in
-    equal-outcome writeOutcome
-    (too-short _ _ _ (numbered k .numbers-of .ensures) _ (k .check .ensures) _ (t .before .checked .given .1) (c .if1 .taken))
-
-write-fields-requires : tie.Need-write-fields-requires
-write-fields-requires c κs =
-    let e = c .before .before in
-    let t = room e in
-    let k = passed t in
-    fits _ _ _ (numbered k .numbers-of .ensures) _ (k .check .ensures) _ (t .before .checked .given .1) (e .if1 .left)
+put-file-requires : tie.Need-put-file-requires
+put-file-requires c κs = let t = measured c in sym (passed t .check .ensures) ∙ t .before .checked .given .1
 
 same-length : tie.Need-same-length
 same-length c = search needs
 
-returns-3 : tie.Need-returns-3
-returns-3 c =
+returns-2 : tie.Need-returns-2
+returns-2 c =
     let f = c .before .before in
-    let e = stored f in
-    let t = room e in
-    let k = passed t in
-    equal-outcome writeOutcome
-    (written _ _ _ (numbered k .numbers-of .ensures) _ (k .check .ensures) _ (t .before .checked .given .1) (e .if1 .left) _ _
-    (f .write-fields .ensures .0) (f .write-fields .ensures .1))
+    let says = f .put-file .ensures _ (numbered (passed (measured (f .before))) .numbers-of .ensures) in
+    equal-outcome writeOutcome (says .answer, says .buffer)
 
 pub write-spec : {M : Type 1} → statement M
 write-spec =
@@ -88,7 +69,6 @@ write-spec =
     verdict-of-requires
     refusal-in-requires
     returns
-    returns-2
-    write-fields-requires
+    put-file-requires
     same-length
-    returns-3)
+    returns-2)
