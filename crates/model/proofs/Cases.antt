@@ -23,6 +23,12 @@ by-less P a b f g = by-cond P (ltb a b) (λ e. f (ltb-true a b e)) (λ e. g (ltb
 pub true-not-false : {P : Type 0} → true ≡ false → P
 true-not-false e = absurd (true≢false e)
 
+-- Tests that pass together are the same.
+pub same-bool : (a b : Bool) → (a ≡ true → b ≡ true) → (b ≡ true → a ≡ true) → a ≡ b
+same-bool true b to from = sym (to refl)
+same-bool false true to from = from refl
+same-bool false false to from = refl
+
 pub and-left : (a b : Bool) → (a && b) ≡ true → a ≡ true
 and-left true b e = refl
 and-left false b e = e

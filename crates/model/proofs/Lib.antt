@@ -5,3 +5,4 @@ pub mod Search
 pub mod Answers
 pub mod Filling
 pub mod Copies
+pub mod Told

@@ -20,10 +20,10 @@ use Rattle.model.specs.Zero.{cycles as cyclesOf}
 use Rattle.model.specs.Limits.{mostRegions}
 use Rattle.model.specs.Numbers.{table}
 use Rattle.model.specs.Costs.{functionOf, howMany}
-use Rattle.model.specs.Walks.{EdgeOf, lastVertex, Lawful, Greatest}
+use Rattle.model.specs.Walks.{EdgeOf, lastVertex, Lawful, Greatest, Smaller}
 use Rattle.model.specs.Layouts.{needOf}
 use Rattle.model.specs.Interference.{Interferes}
-use Rattle.model.specs.Charges.{Told, visitCharge, firstLoads, charges}
+use Rattle.model.specs.Charges.{Told, visitCharge, firstLoads, secondTotal, charges}
 use Rattle.model.specs.Runs.{cycles, loads, heldAfter}
 use Rattle.model.specs.Verdicts.{wordCount, judgeInterference, judgeBound, judgeRun}
 
@@ -47,29 +47,34 @@ InterferenceSays p words after (interference.Refused f) = (judgeInterference p (
 abbrev pub boundLimit : ℕ
 boundLimit = 1000000000000000000
 
--- **Bound**: the largest sum of visit charges over all lawful walks, plus the first loads. No lawful walk, of any length, from an empty scratchpad,
--- has more simulated cycles.
+-- **Bound**: the smaller of two totals, the greatest visit charges over all lawful walks plus the first loads, and the greatest second total. What it
+-- has above the greatest visit charges is shown as first loads. No lawful walk, of any length, from an empty scratchpad, has more simulated cycles.
 pub record BoundIs (p : Problem) (layout : List ℕ) (b : Bound) : Type 0 where
   pub contested : ℕ → Bool
+  pub early : ℕ → Bool
   pub cold : ℕ → Bool
-  pub told : Told p layout contested cold
+  pub told : Told p layout contested early cold
   pub need-is : b .need .0 ≡ needOf p layout
   pub contested-are : b .contested ≡ howMany (p .«vertex_count») contested
-  pub first-is : b .first .0 ≡ firstLoads p cold
   pub greatest : ℕ
   pub greatest-is : Greatest p (charges (visitCharge p contested)) greatest
-  pub bound-is : b .bound .0 ≡ greatest + firstLoads p cold
+  pub bound-is : Smaller p (greatest + firstLoads p cold) (secondTotal p contested early) (b .bound .0)
+  pub first-is : greatest + b .first .0 ≡ b .bound .0
   pub within-limit : b .bound .0 ≤ boundLimit
   pub covers : (h : List ℕ) → Lawful p h → cycles p layout (lastVertex p ∷ h) ≤ b .bound .0
 
--- 14: the bound passes its limit, since a lawful walk's visit charges and the first loads do.
+-- Some lawful walk's sum passes the bound's limit.
+abbrev pub Passes : Problem → (List ℕ → ℕ) → Type 0
+Passes p f = (h : List ℕ) × Lawful p h × (boundLimit < f (lastVertex p ∷ h))
+
+-- 14: the bound passes its limit, since both totals do.
 pub record PastTheLimit (p : Problem) (layout : List ℕ) : Type 0 where
   pub contested : ℕ → Bool
+  pub early : ℕ → Bool
   pub cold : ℕ → Bool
-  pub told : Told p layout contested cold
-  pub past : List ℕ
-  pub lawful : Lawful p past
-  pub over : boundLimit < charges (visitCharge p contested) (lastVertex p ∷ past) + firstLoads p cold
+  pub told : Told p layout contested early cold
+  pub over : Passes p (λ h. charges (visitCharge p contested) h + firstLoads p cold)
+  pub second-over : Passes p (secondTotal p contested early)
 
 -- A layout is *accepted* with a problem if none of Bound's refusals applies.
 abbrev pub AcceptedWith : Problem → List ℕ → Type 0

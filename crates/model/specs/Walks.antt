@@ -3,6 +3,7 @@ use Prim.Native.Nat.{ℕ, _+_, _-_, _≤_}
 use mathlib.Core.Path.{_≡_}
 use mathlib.Core.List.{List, [], _∷_, reverse, List·Memᴰ}
 use mathlib.Core.Bool.{cond}
+use mathlib.Core.Logic.{_⊎_}
 use lib.Dec.{eqb}
 use Rattle.model.specs.declared.Edge.{Edge}
 use Rattle.model.specs.declared.Loop.{Loop}
@@ -41,7 +42,27 @@ pub record Lawful (p : Problem) (h : List ℕ) : Type 0 where
 abbrev pub LawfulWalk : Problem → List ℕ → Type 0
 LawfulWalk p walk = (h : List ℕ) × (reverse walk ≡ lastVertex p ∷ h) × Lawful p h
 
+-- The sum of f over loops.
+unfoldable pub sum : (Loop → ℕ) → List Loop → ℕ
+sum f [] = 0
+sum f (l ∷ ls) = f l + sum f ls
+
+-- What a visit to v after h pays for entering the loop l: v is its header, and in the present stay there was no visit to it before.
+unfoldable pub entering : (Loop → ℕ) → ℕ → List ℕ → Loop → ℕ
+entering e v h l = cond (eqb (l .header) v) (cond (eqb (visits l h) 0) (e l) 0) 0
+
+-- What a walk pays, with a charge at each visit and one at each entry of a loop.
+unfoldable pub weights : List Loop → (ℕ → ℕ) → (Loop → ℕ) → List ℕ → ℕ
+weights ls c e [] = 0
+weights ls c e (v ∷ h) = weights ls c e h + sum (entering e v h) ls + c v
+
 -- m is the greatest sum of f over all lawful walks.
 pub record Greatest (p : Problem) (f : List ℕ → ℕ) (m : ℕ) : Type 0 where
   pub above : (h : List ℕ) → Lawful p h → f (lastVertex p ∷ h) ≤ m
   pub reached : (h : List ℕ) × Lawful p h × (f (lastVertex p ∷ h) ≡ m)
+
+-- b is the smaller of x and the greatest f over all lawful walks. That greatest f need not be known where x is the smaller.
+pub record Smaller (p : Problem) (x : ℕ) (f : List ℕ → ℕ) (b : ℕ) : Type 0 where
+  pub most : b ≤ x
+  pub reached : (h : List ℕ) × Lawful p h × (b ≤ f (lastVertex p ∷ h))
+  pub one : (b ≡ x) ⊎ ((h : List ℕ) → Lawful p h → f (lastVertex p ∷ h) ≤ b)

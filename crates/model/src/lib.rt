@@ -124,7 +124,7 @@ pub enum InterferenceAnswer {
     Refused(Refusal),
 }
 
-// What Bound gives: bytes needed, number of contested vertices, sum of first loads, bound.
+// What Bound gives: bytes needed, number of contested vertices, what first loads add to the greatest visit charges, bound.
 pub struct Bound {
     pub need: Bytes,
     pub contested: usize,
