@@ -11,7 +11,7 @@ use Rattle.model.specs.declared.Problem.{Problem}
 use Rattle.model.specs.Costs.{functionOf, ownCost, loadCost, total}
 use Rattle.model.specs.Walks.{EdgeOf, Walk, start, step}
 use Rattle.model.specs.Layouts.{regionOf}
-use Rattle.model.specs.Interference.{since, occurs, Contested, Cold}
+use Rattle.model.specs.Interference.{since, occurs, Contested, Early, Cold}
 use Rattle.model.specs.Charges.{Told, visitCharge, firstLoads, charges}
 use Rattle.model.specs.Runs.{held, isHeld, hit, cycles}
 use Rattle.model.proofs.Cases.{true-not-false}
@@ -56,12 +56,25 @@ owed load cold f = cond (cold f) (load f) 0
 paid : (ℕ → ℕ) → (ℕ → ℕ) → List ℕ → ℕ → ℕ
 paid fn due h f = cond (occurs fn f h) (due f) 0
 
--- A toll is at most the own cost, functions are in range, and the tests pass for every contested vertex and every cold function.
-pub record Fair (fn own load region : ℕ → ℕ) (Edge : ℕ → ℕ → Type 0) (functions : ℕ) (toll : ℕ → List ℕ → ℕ) (contested cold : ℕ → Bool) : Type 0 where
+-- A toll is at most the own cost, functions are in range, and the test passes for every contested vertex.
+pub record Fair (fn own load region : ℕ → ℕ) (Edge : ℕ → ℕ → Type 0) (functions : ℕ) (toll : ℕ → List ℕ → ℕ) (contested : ℕ → Bool) : Type 0 where
   pub cheap : (v : ℕ) (h : List ℕ) → Walk Edge v h → toll v h ≤ own v
   pub function : (v : ℕ) (h : List ℕ) → Walk Edge v h → fn v < functions
   pub contested-all : (v : ℕ) → Contested fn Edge region v → contested v ≡ true
-  pub cold-all : (f : ℕ) → Cold fn Edge region f → cold f ≡ true
+
+-- A vertex that passes no test of contested ones and finds its function not held is early, and the first of its function on the walk.
+pub missed :
+    {fn own load region : ℕ → ℕ} {Edge : ℕ → ℕ → Type 0} {functions : ℕ} {toll : ℕ → List ℕ → ℕ} {contested : ℕ → Bool} →
+    Fair fn own load region Edge functions toll contested → (v : ℕ) (h : List ℕ) → Walk Edge v h → contested v ≡ false → hit fn region v h ≡ false →
+    (occurs fn (fn v) h ≡ false) × Early fn Edge region v
+missed {fn} {own} {load} {region} {Edge} {functions} {toll} {contested} fair v h t c q = at (occurs fn (fn v) h) refl
+  where
+    free : Contested fn Edge region v → ⊥
+    free k = not-both c (fair .contested-all v k)
+
+    at : (b : Bool) → occurs fn (fn v) h ≡ b → (occurs fn (fn v) h ≡ false) × Early fn Edge region v
+    at true o = absurd (not-both q (kept fn region (fn v) h o (λ g m e. free (g, (since-ne fn (fn v) g h m, (h, t, m)), e))))
+    at false o = (o, (free, (h, t, o)))
 
 -- A term that is counted stays counted after one visit more, and no term is counted above its value.
 stays : (b o : Bool) (x : ℕ) → cond o x 0 ≤ cond (cond b true o) x 0
@@ -76,19 +89,7 @@ at-most false x = omega arith
 
 module _
     {fn own load region : ℕ → ℕ} {Edge : ℕ → ℕ → Type 0} {functions : ℕ} {toll : ℕ → List ℕ → ℕ} {contested cold : ℕ → Bool}
-    (fair : Fair fn own load region Edge functions toll contested cold) where
-  -- An uncontested vertex that finds its function not held is the first of its function on the walk, which is cold then.
-  missed : (v : ℕ) (h : List ℕ) → Walk Edge v h → contested v ≡ false → hit fn region v h ≡ false → (occurs fn (fn v) h ≡ false) × (cold (fn v) ≡ true)
-  missed v h t c q = at (occurs fn (fn v) h) refl
-    where
-      free : Contested fn Edge region v → ⊥
-      free k = not-both c (fair .contested-all v k)
-
-      at : (b : Bool) → occurs fn (fn v) h ≡ b → (occurs fn (fn v) h ≡ false) × (cold (fn v) ≡ true)
-      at true o =
-          absurd (not-both q (kept fn region (fn v) h o (λ g m e. free (g, (since-ne fn (fn v) g h m, (h, t, m)), e))))
-      at false o = (o, fair .cold-all (fn v) (v, refl, (free, (h, t, o))))
-
+    (fair : Fair fn own load region Edge functions toll contested) (cold-all : (f : ℕ) → Cold fn Edge region f → cold f ≡ true) where
   -- What the functions visited so far owed.
   abbrev dues : List ℕ → ℕ → ℕ
   dues h = paid fn (owed load cold) h
@@ -107,7 +108,9 @@ module _
       rises = total-mono (dues h) (dues (v ∷ h)) grows functions
 
       gains : contested v ≡ false → hit fn region v h ≡ false → dues h (fn v) + load (fn v) ≤ dues (v ∷ h) (fn v)
-      gains c q = let m = missed v h t c q in rw (m .0, eq-eqb (fn v) (fn v) refl, m .1) (omega arith)
+      gains c q =
+          let (first, early) = missed fair v h t c q in
+          rw (first, eq-eqb (fn v) (fn v) refl, cold-all (fn v) (v, refl, early)) (omega arith)
 
       at :
           (a : Bool) → hit fn region v h ≡ a → (c : Bool) → contested v ≡ c →
@@ -136,19 +139,22 @@ module _
       omega (arith, so-far t)
 
 module _ (p : Problem) (layout : List ℕ) where
-  cycles-price : (h : List ℕ) → cycles p layout h ≡ price (functionOf p) (loadCost p) (regionOf layout) (λ v h. ownCost p v) h
+  pub cycles-price : (h : List ℕ) → cycles p layout h ≡ price (functionOf p) (loadCost p) (regionOf layout) (λ v h. ownCost p v) h
   unfolding cycles price
   cycles-price [] = refl
   cycles-price (v ∷ h) = rw (cycles-price h)
 
+  pub fair-cycles :
+      (contested early cold : ℕ → Bool) → Told p layout contested early cold →
+      ((v : ℕ) (h : List ℕ) → Walk (EdgeOf p) v h → functionOf p v < p .«function_count») →
+      Fair (functionOf p) (ownCost p) (loadCost p) (regionOf layout) (EdgeOf p) (p .«function_count») (λ v h. ownCost p v) contested
+  fair-cycles contested early cold told function = record { cheap = λ v h t. omega arith; function = function; contested-all = told .contested-all }
+
   -- Demand 3, its first half.
   pub cycles-covered :
-      (contested cold : ℕ → Bool) → Told p layout contested cold →
+      (contested early cold : ℕ → Bool) → Told p layout contested early cold →
       ((v : ℕ) (h : List ℕ) → Walk (EdgeOf p) v h → functionOf p v < p .«function_count») →
       {v : ℕ} {h : List ℕ} → Walk (EdgeOf p) v h →
       cycles p layout (v ∷ h) ≤ charges (visitCharge p contested) (v ∷ h) + firstLoads p cold
   unfolding visitCharge firstLoads
-  cycles-covered contested cold told function {v} {h} t = rw (cycles-price (v ∷ h)) (covered fair t)
-    where
-      fair : Fair (functionOf p) (ownCost p) (loadCost p) (regionOf layout) (EdgeOf p) (p .«function_count») (λ v h. ownCost p v) contested cold
-      fair = record { cheap = λ v h t. omega arith; function = function; contested-all = told .contested-all; cold-all = told .cold-all }
+  cycles-covered contested early cold told function {v} {h} t = rw (cycles-price (v ∷ h)) (covered (fair-cycles contested early cold told function) (told .cold-all) t)
