@@ -9,13 +9,13 @@ use lib.Dec.{eqb}
 use borrow.Author.Tests.{eqb-true, eqb-false}
 use Rattle.model.specs.declared.Loop.{Loop}
 use Rattle.model.specs.Graph.{holds}
-use Rattle.model.specs.Walks.{Walk, start, step, visits, Within}
+use Rattle.model.specs.Walks.{Walk, start, step, visits, Within, sum, entering, weights}
 use Rattle.model.proofs.Cases.{by-bool}
-use Rattle.greatest.specs.Numbers.{sum, leave, NoHeader}
+use Rattle.greatest.specs.Numbers.{leave, NoHeader}
 use Rattle.greatest.proofs.Loops.{holds-from, holds-not, header?}
 use Rattle.greatest.proofs.Sums.{sum-none, sum-up}
 use Rattle.greatest.proofs.Stays.{visits-out, visits-head, visits-body}
-use Rattle.greatest.proofs.Weights.{entering, entering-new, weights, tally, tally-new, tally-on, tally-all, Since, since-below}
+use Rattle.greatest.proofs.Weights.{entering-new, tally, tally-new, tally-on, tally-all, Since, since-below}
 use Rattle.greatest.proofs.Rules.{Rules, Order, held-head, one-loop, since-back}
 use Rattle.greatest.proofs.Levels.{Low}
 use Rattle.greatest.proofs.Counts.{prev, prev-body, prev-head, digit, far}

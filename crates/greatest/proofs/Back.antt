@@ -9,12 +9,13 @@ use lib.Dec.{eqb}
 use borrow.Author.Tests.{eqb-true, eqb-false}
 use Rattle.model.specs.declared.Loop.{Loop}
 use Rattle.model.specs.Graph.{holds}
+use Rattle.model.specs.Walks.{sum, entering}
 use Rattle.model.proofs.Cases.{by-bool}
-use Rattle.greatest.specs.Numbers.{sum, left, leave, NoHeader}
+use Rattle.greatest.specs.Numbers.{left, leave, NoHeader}
 use Rattle.greatest.proofs.Loops.{holds-from, holds-to, holds-not, behind-range}
 use Rattle.greatest.proofs.Sums.{sum-at, sum-ge, sum-ge-at}
 use Rattle.greatest.proofs.Stays.{visits-out}
-use Rattle.greatest.proofs.Weights.{entering, entering-new, Since, since-below}
+use Rattle.greatest.proofs.Weights.{entering-new, Since, since-below}
 use Rattle.greatest.proofs.Rules.{Rules, Order, held-head, one-loop, enters-up, ascends, stays-in, leaves-since}
 use Rattle.greatest.proofs.Levels.{Low}
 use Rattle.greatest.proofs.Counts.{prev, prev-out, prev-body, prev-head, prev-le, digit, digit-in, digit-after}

@@ -8,11 +8,10 @@ use lib.ListN.{length}
 use Rattle.model.specs.declared.Loop.{Loop}
 use Rattle.model.specs.declared.Problem.{Problem}
 use Rattle.model.specs.Graph.{holds, edgesOf, loopsOf}
-use Rattle.model.specs.Walks.{EdgeOf, lastVertex, Lawful, Greatest}
-use Rattle.model.specs.Charges.{charges}
+use Rattle.model.specs.Walks.{EdgeOf, lastVertex, Lawful, weights, Greatest}
 use Rattle.graph.proofs.Facts.{GraphFacts}
 use Rattle.greatest.specs.Numbers.{starts, ends, Solved}
-use Rattle.greatest.proofs.Weights.{weights, weights-plain}
+use Rattle.greatest.specs.Greatest.{GreatestCapped}
 use Rattle.greatest.proofs.Rules.{Rules, Order}
 use Rattle.greatest.proofs.Levels.{High, Low}
 use Rattle.greatest.proofs.Upper.{upper-last}
@@ -37,26 +36,31 @@ module _ (p : Problem) {c : ℕ → ℕ} {e : Loop → ℕ} {D : ℕ → ℕ} {E
       reached = let (h, w, g) = reaches in (h, w, omega (arith, no-heavier h w));
     }
 
--- In document 01's terms: charges, and numbers that solve the equations.
-module _ (p : Problem) {c : ℕ → ℕ} {D : ℕ → ℕ} {E T : Loop → ℕ} {cap : ℕ}
+-- Numbers that solve the equations.
+module _ (p : Problem) {c : ℕ → ℕ} {e : Loop → ℕ} {D : ℕ → ℕ} {E T : Loop → ℕ} {cap : ℕ}
     (G : GraphFacts (p .«vertex_count») (edgesOf p) (loopsOf p)) (B : Ranges (p .«vertex_count») (edgesOf p) (loopsOf p))
-    (S : Solved (starts (edgesOf p)) (ends (edgesOf p)) (length (edgesOf p)) (loopsOf p) c (λ l. 0) D E T cap (p .«vertex_count»)) where
-  is-high : High (EdgeOf p) (loopsOf p) c (λ l. 0) D E T cap
+    (S : Solved (starts (edgesOf p)) (ends (edgesOf p)) (length (edgesOf p)) (loopsOf p) c e D E T cap (p .«vertex_count»)) where
+  is-high : High (EdgeOf p) (loopsOf p) c e D E T cap
   is-high = high (listing (edgesOf p)) (rules G B) (linked G B) S
 
-  is-low : Low (EdgeOf p) (loopsOf p) c (λ l. 0) D E T (p .«vertex_count»)
+  is-low : Low (EdgeOf p) (loopsOf p) c e D E T (p .«vertex_count»)
   is-low = low (listing (edgesOf p)) (rules G B) (linked G B) S
 
-  plain : (h : List ℕ) → weights (loopsOf p) c (λ l. 0) (lastVertex p ∷ h) ≡ charges c (lastVertex p ∷ h)
-  plain h = weights-plain (loopsOf p) c (lastVertex p ∷ h)
+  pub at-last : D (lastVertex p) ≤ cap → GreatestCapped p cap (weights (loopsOf p) c e) (D (lastVertex p))
+  at-last most = record {
+    below = greatest-weight p (rules G B) is-high (G .open-end) (B .some-vertex) (order G B) is-low;
+    at = λ s. let (h, w, q) = reaches p (rules G B) is-high (G .open-end) (B .some-vertex) (order G B) is-low in (h, w, omega arith);
+    most = most;
+  }
 
-  pub below-cap : D (lastVertex p) < cap → Greatest p (charges c) (D (lastVertex p))
-  below-cap s =
-      let g = greatest-weight p (rules G B) is-high (G .open-end) (B .some-vertex) (order G B) is-low s in
-      let (h, w, q) = g .reached in
-      record { above = λ h w. omega (arith, g .above h w, plain h); reached = (h, w, omega (arith, plain h)) }
-
-  pub at-cap : cap ≤ D (lastVertex p) → (h : List ℕ) × Lawful p h × (cap ≤ charges c (lastVertex p ∷ h))
-  at-cap s =
-      let (h, w, q) = reaches p (rules G B) is-high (G .open-end) (B .some-vertex) (order G B) is-low in
-      (h, w, omega (arith, plain h))
+-- Sums that are the same on all lawful walks have the same greatest one.
+pub capped-same : (p : Problem) (cap : ℕ) (f g : List ℕ → ℕ) {r : ℕ} → ((h : List ℕ) → Lawful p h → f (lastVertex p ∷ h) ≡ g (lastVertex p ∷ h))
+    → GreatestCapped p cap f r → GreatestCapped p cap g r
+capped-same p cap f g same F = record {
+  below = λ s. let m = F .below s in record {
+    above = λ h w. omega (arith, m .above h w, same h w);
+    reached = let (h, w, is) = m .reached in (h, w, omega (arith, same h w));
+  };
+  at = λ s. let (h, w, q) = F .at s in (h, w, omega (arith, same h w));
+  most = F .most;
+}

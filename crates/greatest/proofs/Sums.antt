@@ -6,7 +6,7 @@ use native.Mathlib.Omega.{arith}
 use lib.ListN.{length, take}
 use Rattle.model.specs.declared.Loop.{Loop}
 use Rattle.model.specs.Graph.{loop}
-use Rattle.greatest.specs.Numbers.{sum}
+use Rattle.model.specs.Walks.{sum}
 use Rattle.greatest.proofs.Loops.{Ascend, same-header}
 
 -- The sum over the first loops, as a program's turns make it.

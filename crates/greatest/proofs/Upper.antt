@@ -9,13 +9,13 @@ use lib.Dec.{eqb}
 use borrow.Author.Tests.{eqb-true, eqb-false}
 use Rattle.model.specs.declared.Loop.{Loop}
 use Rattle.model.specs.Graph.{holds}
-use Rattle.model.specs.Walks.{Walk, start, step, visits, Within}
+use Rattle.model.specs.Walks.{Walk, start, step, visits, Within, sum, entering, weights}
 use Rattle.model.proofs.Cases.{by-bool}
-use Rattle.greatest.specs.Numbers.{sum, left, leave, NoHeader}
+use Rattle.greatest.specs.Numbers.{left, leave, NoHeader}
 use Rattle.greatest.proofs.Loops.{header?}
 use Rattle.greatest.proofs.Sums.{sum-none, sum-at, sum-le, sum-le-at}
 use Rattle.greatest.proofs.Stays.{visits-out, visits-head, visits-up, within-all}
-use Rattle.greatest.proofs.Weights.{entering, weights, tally, tally-new, tally-on, tally-all, Since, since-below}
+use Rattle.greatest.proofs.Weights.{tally, tally-new, tally-on, tally-all, Since, since-below}
 use Rattle.greatest.proofs.Weights.{entering-stayed, entering-most, enters-one, enters-none}
 use Rattle.greatest.proofs.Rules.{Rules, held-head, ascends, stayed, since-back}
 use Rattle.greatest.proofs.Levels.{High}

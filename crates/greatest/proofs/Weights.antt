@@ -1,6 +1,5 @@
--- What a walk weighs: a vertex at each visit, a loop at each entry; all of it, or since the latest visit to some vertex. In document 01 a visit
--- weighs its charge and entering a loop nothing.
-use Prim.Native.Nat.{ℕ, suc, _+_, _≤_}
+-- Laws of what a walk weighs, a vertex at each visit and a loop at each entry: all of it, or since the latest visit to some vertex.
+use Prim.Native.Nat.{ℕ, suc, _+_, _≤_, _<_}
 use mathlib.Core.Path.{_≡_, refl, sym, _∙_}
 use mathlib.Core.List.{List, [], _∷_, List·Memᴰ}
 use mathlib.Core.Bool.{Bool, true, false, cond}
@@ -10,22 +9,14 @@ use lib.Dec.{eqb}
 use borrow.Author.Tests.{eq-eqb, ne-eqb}
 use Rattle.model.specs.declared.Loop.{Loop}
 use Rattle.model.specs.Graph.{holds}
-use Rattle.model.specs.Walks.{visits}
+use Rattle.model.specs.Walks.{Walk, start, step, visits, sum, entering, weights}
 use Rattle.model.specs.Charges.{charges}
-use Rattle.greatest.specs.Numbers.{sum, NoHeader}
+use Rattle.greatest.specs.Numbers.{NoHeader}
 use Rattle.greatest.proofs.Loops.{holds-from, Ascend}
-use Rattle.greatest.proofs.Sums.{sum-none, sum-one}
-
--- What a visit to v after h pays for entering the loop l: v is l's header, and the visit begins the stay.
-unfoldable pub entering : (Loop → ℕ) → ℕ → List ℕ → Loop → ℕ
-entering e v h l = cond (eqb (l .header) v) (cond (eqb (visits l h) 0) (e l) 0) 0
+use Rattle.greatest.proofs.Sums.{sum-none, sum-one, sum-same}
 
 module _ (ls : List Loop) (c : ℕ → ℕ) (e : Loop → ℕ) where
-  unfoldable pub weights : List ℕ → ℕ
-  weights [] = 0
-  weights (v ∷ h) = weights h + sum (entering e v h) ls + c v
-
-  -- The same since the latest visit to the vertex before s, that visit's own weight included; for s = 0, since the start.
+  -- What a walk weighs since the latest visit to the vertex before s, that visit's own weight included; for s = 0, since the start.
   unfoldable pub tally : ℕ → List ℕ → ℕ
   tally s [] = 0
   tally s (v ∷ h) = cond (eqb (suc v) s) (c v) (tally s h + sum (entering e v h) ls + c v)
@@ -88,8 +79,26 @@ module _ (ls : List Loop) (c : ℕ → ℕ) (e : Loop → ℕ) where
   tally-all (v ∷ h) = tally-on 0 v h (λ p. omega arith) ∙ rw (tally-all h)
 
 -- Where entering weighs nothing, a walk weighs its charges.
-pub weights-plain : (ls : List Loop) (c : ℕ → ℕ) (h : List ℕ) → weights ls c (λ l. 0) h ≡ charges c h
+pub weights-plain : (ls : List Loop) (c : ℕ → ℕ) (e : Loop → ℕ) → ((l : Loop) → List·Memᴰ l ls → e l ≡ 0) → (h : List ℕ) → weights ls c e h ≡ charges c h
 unfolding weights charges
-weights-plain ls c [] = refl
-weights-plain ls c (v ∷ h) =
-    omega (arith, weights-plain ls c h, sum-none (entering (λ l. 0) v h) ls (λ l i. entering-most (λ l. 0) v h l))
+weights-plain ls c e none [] = refl
+weights-plain ls c e none (v ∷ h) =
+    omega (arith, weights-plain ls c e none h, sum-none (entering e v h) ls (λ l i. omega (arith, entering-most e v h l, none l i)))
+
+-- Where no charge is larger, charges are no more than what a walk weighs.
+pub charges-below : (ls : List Loop) (c d : ℕ → ℕ) (e : Loop → ℕ) → ((v : ℕ) → c v ≤ d v) → (h : List ℕ) → charges c h ≤ weights ls d e h
+unfolding charges weights
+charges-below ls c d e le [] = omega arith
+charges-below ls c d e le (v ∷ h) = omega (arith, charges-below ls c d e le h, le v)
+
+-- Weights that agree on all loops, and on the vertices where walks come, are the same of every walk.
+module _ {Edge : ℕ → ℕ → Type 0} {n : ℕ} (below : (v : ℕ) (h : List ℕ) → Walk Edge v h → v < n) {ls : List Loop} {c c′ : ℕ → ℕ} {e e′ : Loop → ℕ}
+    (same : (v : ℕ) → v < n → c v ≡ c′ v) (same-entry : (l : Loop) → List·Memᴰ l ls → e l ≡ e′ l) where
+  entering-same : (v : ℕ) (h : List ℕ) → sum (entering e v h) ls ≡ sum (entering e′ v h) ls
+  unfolding entering
+  entering-same v h = sum-same (entering e v h) (entering e′ v h) ls (λ l i. rw (same-entry l i))
+
+  pub weights-same : {v : ℕ} {h : List ℕ} → Walk Edge v h → weights ls c e (v ∷ h) ≡ weights ls c′ e′ (v ∷ h)
+  unfolding weights
+  weights-same start = rw (entering-same 0 [], same 0 (below 0 [] start))
+  weights-same (step {u} {v} {h} walk edge) = rw (weights-same walk, entering-same v (u ∷ h), same v (below v (u ∷ h) (step walk edge)))

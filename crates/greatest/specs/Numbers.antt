@@ -1,19 +1,16 @@
--- The numbers by which the greatest charges over all lawful walks are found, a vertex and a loop at a time: the equations that a program's filling
--- has to satisfy. A visit to v weighs `c v`, entering a loop l weighs `e l` (nothing, in document 01). `D v` is for a visit to v: the greatest weight
--- since the innermost loop's present iteration began, or since the start. `E l` is for entering l: what the iteration around it has by then.
+-- The numbers by which the greatest weight of a lawful walk is found, a vertex and a loop at a time: the equations that a program's filling
+-- has to satisfy. A visit to v weighs `c v`, entering a loop l weighs `e l`. `D v` is for a visit to v: the greatest weight
+-- since the innermost loop's present iteration began, or since the start. `E l` is for entering l: what the iteration around it has by then, the entry included.
 -- `T l` is for one iteration of l. Numbers are kept up to a cap.
 use Prim.Native.Nat.{ℕ, zero, suc, _+_, _-_, _*_, _<_, min, max}
 use mathlib.Core.Path.{_≡_}
-use mathlib.Core.List.{List, [], _∷_, List·Memᴰ}
+use mathlib.Core.List.{List, List·Memᴰ}
 use mathlib.Core.Bool.{Bool, true, cond, not, _&&_}
 use lib.Dec.{eqb}
 use Rattle.model.specs.declared.Edge.{Edge}
 use Rattle.model.specs.declared.Loop.{Loop}
 use Rattle.model.specs.Graph.{holds, edge}
-
-unfoldable pub sum : (Loop → ℕ) → List Loop → ℕ
-sum f [] = 0
-sum f (l ∷ ls) = f l + sum f ls
+use Rattle.model.specs.Walks.{sum}
 
 -- What a loop adds that the edge from u to v leaves: entering it, and all its iterations but the last.
 unfoldable pub left : (E T : Loop → ℕ) → ℕ → ℕ → Loop → ℕ

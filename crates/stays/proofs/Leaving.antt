@@ -8,11 +8,11 @@ use lib.ListN.{length, getD, take}
 use lib.Seq.{take-all}
 use Rattle.model.specs.declared.Loop.{Loop}
 use Rattle.model.specs.Graph.{holds, loop}
+use Rattle.model.specs.Walks.{sum}
 use Rattle.model.specs.Places as places
 use Rattle.model.proofs.Cases.{by-bool, by-order}
 use Rattle.lookup.specs.Lists.{loopsIn}
 use Rattle.lookup.specs.Plain.{rangeOf}
-use Rattle.greatest.specs.Numbers.{sum}
 use Rattle.greatest.proofs.Sums.{sum-take}
 use Rattle.stays.specs.Tables.{cap, byHeader}
 use Rattle.stays.specs.Leaving.{leftOf, leaving}

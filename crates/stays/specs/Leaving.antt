@@ -4,8 +4,8 @@ use mathlib.Core.List.{List}
 use mathlib.Core.Bool.{cond}
 use Rattle.model.specs.declared.Loop.{Loop}
 use Rattle.model.specs.Graph.{holds}
+use Rattle.model.specs.Walks.{sum}
 use Rattle.lookup.specs.Lists.{loopsIn}
-use Rattle.greatest.specs.Numbers.{sum}
 use Rattle.stays.specs.Tables.{byHeader}
 
 -- What a loop adds to the edge from u to v: what stands for it in w, if the edge leaves it.
