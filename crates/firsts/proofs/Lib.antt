@@ -1,0 +1,3 @@
+pub mod Outermost
+pub mod Second
+pub mod Smaller
