@@ -8,12 +8,13 @@ use native.Mathlib.Omega.{arith}
 use borrow.Author.Tests.{eq-eqb, ne-eqb}
 use Rattle.model.specs.declared.Loop.{Loop}
 use Rattle.model.specs.Graph.{holds}
+use Rattle.model.specs.Walks.{sum}
 use Rattle.model.proofs.Cases.{by-bool}
 use Rattle.lookup.specs.Lists.{edgesIn, loopsIn}
-use Rattle.greatest.specs.Numbers.{sum, left, leave, starts, ends, bestVisit, bestEntry, bestTurn}
+use Rattle.greatest.specs.Numbers.{left, leave, starts, ends, bestVisit, bestEntry, bestTurn}
 use Rattle.greatest.proofs.Best.{best-local}
 use Rattle.chains.specs.Chains.{edgeCount}
-use Rattle.stays.specs.Tables.{cap, byHeader, byVertex}
+use Rattle.stays.specs.Tables.{cap, Capped, byHeader, byVertex}
 use Rattle.stays.specs.Leaving.{leftOf, leaving}
 use Rattle.offers.specs.Offers.{brought, bestInto, visitNumber, entryNumber, turnNumber}
 use Rattle.iterations.specs.Filling.{Kept}
@@ -24,7 +25,7 @@ unfolding sum
 capped-sums f g [] same = refl
 capped-sums f g (k ∷ ls) same = omega (arith, same k (List·Memᴰ·head refl), capped-sums f g ls (λ m i. same m (List·Memᴰ·tail i)))
 
-module _ (l charge d e w : List ℕ) {turns : Loop → ℕ} {x : ℕ} (kept : Kept (loopsIn l) e w turns x) where
+module _ (l charge enter d e w : List ℕ) {turns : Loop → ℕ} {x : ℕ} (kept : Kept (loopsIn l) e w turns x) where
   same-left : (u v : ℕ) (k : Loop) → List·Memᴰ k (loopsIn l) → min cap (leftOf w u v k) ≡ min cap (left (byHeader e) turns u v k)
   unfolding leftOf left
   same-left u v k i =
@@ -47,7 +48,7 @@ module _ (l charge d e w : List ℕ) {turns : Loop → ℕ} {x : ℕ} (kept : Ke
 
   pub visit-number : (v : ℕ) → (v ≡ 0 → ⊥)
       → visitNumber l charge d w v
-      ≡ bestVisit (starts (edgesIn l)) (ends (edgesIn l)) (edgeCount l) (loopsIn l) (byVertex charge) (λ k. 0) (byVertex d) (byHeader e) turns cap v
+      ≡ bestVisit (starts (edgesIn l)) (ends (edgesIn l)) (edgeCount l) (loopsIn l) (byVertex charge) (byHeader enter) (byVertex d) (byHeader e) turns cap v
   unfolding visitNumber bestInto
   visit-number v some =
       rw (ne-eqb v 0 some)
@@ -56,22 +57,24 @@ module _ (l charge d e w : List ℕ) {turns : Loop → ℕ} {x : ℕ} (kept : Ke
       (λ i r h q. same-brought (starts (edgesIn l) i) v (byVertex charge v)))
 
   module _ (k : Loop) where
-    pub entry-start : k .header ≡ 0 → entryNumber l d w k ≡ min cap 0
-    unfolding entryNumber
-    entry-start z = rw (eq-eqb (k .header) 0 z)
+    pub entry-start : Capped enter → k .header ≡ 0 → entryNumber l enter d w k ≡ min cap (byHeader enter k)
+    unfolding entryNumber byHeader
+    entry-start enters z = rw (eq-eqb (k .header) 0 z) (omega (arith, enters .most (k .header)))
 
     pub entry-number : (k .header ≡ 0 → ⊥)
-        → entryNumber l d w k
-        ≡ bestEntry (starts (edgesIn l)) (ends (edgesIn l)) (edgeCount l) (loopsIn l) (byVertex charge) (λ k. 0) (byVertex d) (byHeader e) turns cap k (k .header)
+        → entryNumber l enter d w k
+        ≡ bestEntry (starts (edgesIn l)) (ends (edgesIn l)) (edgeCount l) (loopsIn l) (byVertex charge) (byHeader enter) (byVertex d) (byHeader e) turns cap k
+        (k .header)
     unfolding entryNumber bestInto
     entry-number some =
         rw (ne-eqb (k .header) 0 some)
-        (best-local (starts (edgesIn l)) (ends (edgesIn l)) (λ u. not (holds k u)) (brought l d w (k .header) 0) (k .header)
-        (λ u. min cap (byVertex d u + leave (byHeader e) turns (loopsIn l) u (k .header) + 0)) (edgeCount l)
-        (λ i r h q. same-brought (starts (edgesIn l) i) (k .header) 0))
+        (best-local (starts (edgesIn l)) (ends (edgesIn l)) (λ u. not (holds k u)) (brought l d w (k .header) (byHeader enter k)) (k .header)
+        (λ u. min cap (byVertex d u + leave (byHeader e) turns (loopsIn l) u (k .header) + byHeader enter k)) (edgeCount l)
+        (λ i r h q. same-brought (starts (edgesIn l) i) (k .header) (byHeader enter k)))
 
     pub turn-number : turnNumber l d w k
-        ≡ bestTurn (starts (edgesIn l)) (ends (edgesIn l)) (edgeCount l) (loopsIn l) (byVertex charge) (λ k. 0) (byVertex d) (byHeader e) turns cap k (k .header)
+        ≡ bestTurn (starts (edgesIn l)) (ends (edgesIn l)) (edgeCount l) (loopsIn l) (byVertex charge) (byHeader enter) (byVertex d) (byHeader e) turns cap k
+        (k .header)
     unfolding turnNumber bestInto
     turn-number =
         best-local (starts (edgesIn l)) (ends (edgesIn l)) (λ u. holds k u) (brought l d w (k .header) 0) (k .header)

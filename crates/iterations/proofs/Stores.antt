@@ -99,10 +99,10 @@ module _ {ls : List Loop} {e w : List ℕ} {turns : Loop → ℕ} {x : ℕ} (kep
         later = λ k i p. sym (now-other h n k (λ q. omega arith)) ∙ kept .later k i (omega arith);
       }
 
-module _ {l charge d e w : List ℕ} where
+module _ {l charge enter d e w : List ℕ} where
   -- The number of a vertex that is no header.
-  pub store-visit : {v x : ℕ} → Filling l charge d e w v (Before v) → v < verticesIn l → NoHeader (loopsIn l) v → x ≡ visitNumber l charge d w v
-      → Filling l charge (set d v x) e w (v + 1) (Before v)
+  pub store-visit : {v x : ℕ} → Filling l charge enter d e w v (Before v) → v < verticesIn l → NoHeader (loopsIn l) v → x ≡ visitNumber l charge d w v
+      → Filling l charge enter (set d v x) e w (v + 1) (Before v)
   store-visit {v} {x} f h plain is =
       let r = f .ready in
       let ok = r .checked in
@@ -112,20 +112,21 @@ module _ {l charge d e w : List ℕ} where
         ready = record { checked = ok; visits = capped-set d v x in-d (omega (arith, visit-most l charge d w v (f .charges))) (r .visits); stays = r .stays };
         entries = f .entries;
         charges = f .charges;
+        enters = f .enters;
         visits-long = length-set d v x ∙ f .visits-long;
         entries-long = f .entries-long;
         stays-long = f .stays-long;
         kept = kept-on (f .kept) (v + 1) (omega arith);
         upto =
-            visited (listing (edgesIn l)) (rules-of ok) (order-of ok) (byVertex charge) (λ k. 0) cap v (byVertex d) (byVertex (set d v x)) (byHeader e) (byHeader e)
-            (f .turns) (vertex-below d v x) (λ k i s. refl) (f .upto) plain
-            (λ z. vertex-same d v x in-d ∙ is ∙ visit-start l charge d e w (f .kept) v z)
-            (λ z. vertex-same d v x in-d ∙ is ∙ visit-number l charge d e w (f .kept) v z);
+            visited (listing (edgesIn l)) (rules-of ok) (order-of ok) (byVertex charge) (byHeader enter) cap v
+            (byVertex d) (byVertex (set d v x)) (byHeader e) (byHeader e) (f .turns) (vertex-below d v x) (λ k i s. refl) (f .upto) plain
+            (λ z. vertex-same d v x in-d ∙ is ∙ visit-start l charge enter d e w (f .kept) v z)
+            (λ z. vertex-same d v x in-d ∙ is ∙ visit-number l charge enter d e w (f .kept) v z);
       }
 
   -- The number of entering a loop, and its header's charge.
-  pub store-entry : (k : Loop) {x : ℕ} → List·Memᴰ k (loopsIn l) → ToLoop l charge d e w k → x ≡ entryNumber l d w k
-      → Filling l charge (set d (k .header) (getD charge (k .header) 0)) (set e (k .header) x) (set w (k .header) x) (k .header + 1) (Before (k .header))
+  pub store-entry : (k : Loop) {x : ℕ} → List·Memᴰ k (loopsIn l) → ToLoop l charge enter d e w k → x ≡ entryNumber l enter d w k
+      → Filling l charge enter (set d (k .header) (getD charge (k .header) 0)) (set e (k .header) x) (set w (k .header) x) (k .header + 1) (Before (k .header))
   store-entry k {x} i f is =
       let r = f .ready in
       let ok = r .checked in
@@ -134,7 +135,7 @@ module _ {l charge d e w : List ℕ} where
       let in-d : k .header < length d = omega (arith, f .visits-long) in
       let in-e : k .header < length e = omega (arith, f .entries-long) in
       let in-w : k .header < length w = omega (arith, f .stays-long) in
-      let most : x ≤ cap = omega (arith, entry-most l d w k) in
+      let most : x ≤ cap = omega (arith, entry-most l enter d w k (f .enters)) in
       record {
         turns = f .turns;
         ready = record {
@@ -144,22 +145,23 @@ module _ {l charge d e w : List ℕ} where
         };
         entries = capped-set e (k .header) x in-e most (f .entries);
         charges = f .charges;
+        enters = f .enters;
         visits-long = length-set d _ _ ∙ f .visits-long;
         entries-long = length-set e _ _ ∙ f .entries-long;
         stays-long = length-set w _ _ ∙ f .stays-long;
         kept = kept-on (kept-entry (f .kept) (k .header) x in-e in-w most (omega arith)) (k .header + 1) (omega arith);
         upto =
-            entered (listing (edgesIn l)) (rules-of ok) (order-of ok) (byVertex charge) (λ k. 0) cap (k .header)
+            entered (listing (edgesIn l)) (rules-of ok) (order-of ok) (byVertex charge) (byHeader enter) cap (k .header)
             (byVertex d) (byVertex (set d (k .header) (getD charge (k .header) 0))) (byHeader e) (byHeader (set e (k .header) x)) (f .turns)
             (vertex-below d (k .header) _) (λ m j s. header-other e (k .header) x m (λ q. omega arith)) (f .upto) k i refl
             (copied charge d (k .header) in-d)
-            (λ z. header-same e (k .header) x k refl in-e ∙ is ∙ entry-start l charge d e w (f .kept) k z)
-            (λ z. header-same e (k .header) x k refl in-e ∙ is ∙ entry-number l charge d e w (f .kept) k z);
+            (λ z. header-same e (k .header) x k refl in-e ∙ is ∙ entry-start l charge enter d e w (f .kept) k (f .enters) z)
+            (λ z. header-same e (k .header) x k refl in-e ∙ is ∙ entry-number l charge enter d e w (f .kept) k z);
       }
 
   -- The number of a loop's iteration, as part of what stands for the loop.
-  pub store-turn : (k : Loop) {x y : ℕ} → List·Memᴰ k (loopsIn l) → Filling l charge d e w (k .last + 1) (Since (k .header + 1) (k .last + 1))
-      → x ≡ turnNumber l d w k → y ≡ min cap (byHeader e k + (k .bound - 1) * x) → PastLoop l charge d e (set w (k .header) y) k
+  pub store-turn : (k : Loop) {x y : ℕ} → List·Memᴰ k (loopsIn l) → Filling l charge enter d e w (k .last + 1) (Since (k .header + 1) (k .last + 1))
+      → x ≡ turnNumber l d w k → y ≡ min cap (byHeader e k + (k .bound - 1) * x) → PastLoop l charge enter d e (set w (k .header) y) k
   store-turn k {x} {y} i f is whole =
       let r = f .ready in
       let ok = r .checked in
@@ -171,6 +173,7 @@ module _ {l charge d e w : List ℕ} where
         ready = record { checked = ok; visits = r .visits; stays = capped-set w (k .header) y in-w (omega arith) (r .stays) };
         entries = f .entries;
         charges = f .charges;
+        enters = f .enters;
         visits-long = f .visits-long;
         entries-long = f .entries-long;
         stays-long = length-set w _ _ ∙ f .stays-long;
@@ -178,7 +181,7 @@ module _ {l charge d e w : List ℕ} where
             kept-turn (f .kept) (k .header) x y (k .last + 1) in-w (omega arith) (omega arith)
             (λ m j q. rw (one-loop (rules-of ok) (k .header) j i q refl) whole);
         upto =
-            turned (listing (edgesIn l)) (rules-of ok) (order-of ok) (byVertex charge) (λ k. 0) cap k i (byVertex d) (byHeader e) (f .turns)
+            turned (listing (edgesIn l)) (rules-of ok) (order-of ok) (byVertex charge) (byHeader enter) cap k i (byVertex d) (byHeader e) (f .turns)
             (now (f .kept) (k .header) x) (λ m j q. now-other (f .kept) (k .header) x m q) (f .upto)
-            (now-same (f .kept) (k .header) x k refl ∙ is ∙ turn-number l charge d e w (f .kept) k);
+            (now-same (f .kept) (k .header) x k refl ∙ is ∙ turn-number l charge enter d e w (f .kept) k);
       }

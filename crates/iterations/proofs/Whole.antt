@@ -8,19 +8,19 @@ use native.Mathlib.Omega.{arith}
 use lib.ListN.{getD, replicate}
 use Rattle.model.specs.declared.Loop.{Loop}
 use Rattle.model.specs.Numbers.{problemOf}
-use Rattle.model.specs.Walks.{lastVertex}
+use Rattle.model.specs.Walks.{lastVertex, weights}
 use Rattle.model.specs.Places as places
 use Rattle.model.specs.Operations.{Checked}
 use Rattle.lookup.specs.Lists.{verticesIn, edgesIn, loopsIn}
 use Rattle.greatest.specs.Numbers.{starts, ends, Solved}
+use Rattle.greatest.specs.Greatest.{GreatestCapped}
 use Rattle.greatest.proofs.Graph.{linked}
 use Rattle.greatest.proofs.Filling.{complete}
-use Rattle.greatest.proofs.Exact.{below-cap, at-cap}
+use Rattle.greatest.proofs.Exact.{at-last}
 use Rattle.greatest.proofs.Checked.{checked-graph, checked-ranges}
 use Rattle.chains.specs.Chains.{edgeCount}
 use Rattle.stays.specs.Tables.{cap, Capped, byHeader, byVertex}
 use Rattle.iterations.specs.Filling.{Filling, Since}
-use Rattle.iterations.specs.Greatest.{GreatestCapped}
 
 zero-at : (n k : ℕ) → _≡_ {A = ℕ} (getD (replicate n 0) k 0) 0
 zero-at zero k = refl
@@ -38,14 +38,16 @@ none : (k : Loop) → Since 0 0 k → ⊥
 none k (inl s) = omega arith
 none k (inr s) = omega arith
 
-module _ {l charge : List ℕ} where
-  pub nothing-filled : Checked l → Capped charge → Filling l charge (replicate places.mostVertices 0) (replicate places.mostVertices 0) (replicate places.mostVertices 0) 0 (Since 0 0)
-  nothing-filled ok charges =
+module _ {l charge enter : List ℕ} where
+  pub nothing-filled : Checked l → Capped charge → Capped enter
+      → Filling l charge enter (replicate places.mostVertices 0) (replicate places.mostVertices 0) (replicate places.mostVertices 0) 0 (Since 0 0)
+  nothing-filled ok charges enters =
       record {
         turns = λ k. 0;
         ready = record { checked = ok; visits = zeros; stays = zeros };
         entries = zeros;
         charges = charges;
+        enters = enters;
         visits-long = refl;
         entries-long = refl;
         stays-long = refl;
@@ -60,23 +62,22 @@ module _ {l charge : List ℕ} where
         };
       }
 
-  module _ {d e w : List ℕ} (f : Filling l charge d e w (verticesIn l) (Since 0 (verticesIn l))) where
-    all-filled : Solved (starts (edgesIn l)) (ends (edgesIn l)) (edgeCount l) (loopsIn l) (byVertex charge) (λ k. 0) (byVertex d) (byHeader e) (f .turns) cap (verticesIn l)
+  module _ {d e w : List ℕ} (f : Filling l charge enter d e w (verticesIn l) (Since 0 (verticesIn l))) where
+    all-filled :
+        Solved (starts (edgesIn l)) (ends (edgesIn l)) (edgeCount l) (loopsIn l) (byVertex charge) (byHeader enter) (byVertex d) (byHeader e) (f .turns) cap
+        (verticesIn l)
     all-filled =
         let ok = f .ready .checked in
         complete (linked (checked-graph l ok) (checked-ranges l ok)) (checked-ranges l ok .some-vertex)
         (λ k i. inr (omega arith, checked-ranges l ok .last k i)) (f .upto)
 
-    at-last : GreatestCapped (problemOf l) (byVertex charge) (getD d (lastVertex (problemOf l)) 0)
+    greatest-at : GreatestCapped (problemOf l) cap (weights (loopsIn l) (byVertex charge) (byHeader enter)) (getD d (lastVertex (problemOf l)) 0)
     unfolding byVertex
-    at-last =
-        let ok = f .ready .checked in
-        record {
-          below = below-cap (problemOf l) (checked-graph l ok) (checked-ranges l ok) all-filled;
-          at = at-cap (problemOf l) (checked-graph l ok) (checked-ranges l ok) all-filled;
-          most = f .ready .visits .most _;
-        }
+    greatest-at =
+        let r = f .ready in
+        at-last (problemOf l) (checked-graph l (r .checked)) (checked-ranges l (r .checked)) all-filled (r .visits .most _)
 
   -- The same, the vertices counted by a number.
-  pub greatest-at-last : {d e w : List ℕ} {n : ℕ} → n ≡ verticesIn l → Filling l charge d e w n (Since 0 n) → GreatestCapped (problemOf l) (byVertex charge) (getD d (n - 1) 0)
-  greatest-at-last is f = rw is (at-last (rw is at f))
+  pub greatest-at-last : {d e w : List ℕ} {n : ℕ} → n ≡ verticesIn l → Filling l charge enter d e w n (Since 0 n)
+      → GreatestCapped (problemOf l) cap (weights (loopsIn l) (byVertex charge) (byHeader enter)) (getD d (n - 1) 0)
+  greatest-at-last is f = rw is (greatest-at (rw is at f))

@@ -18,16 +18,18 @@ pub record Kept (ls : List Loop) (e w : List ℕ) (turns : Loop → ℕ) (x : �
   pub later : (k : Loop) → List·Memᴰ k ls → x ≤ k .header → turns k ≡ 0
 
 -- The equations of the vertices below x, and of the iterations of the loops that are done.
-pub record Filling (l charge d e w : List ℕ) (x : ℕ) (done : Loop → Type 0) : Type 0 where
+pub record Filling (l charge enter d e w : List ℕ) (x : ℕ) (done : Loop → Type 0) : Type 0 where
   pub turns : Loop → ℕ
   pub ready : Ready l d w
   pub entries : Capped e
   pub charges : Capped charge
+  pub enters : Capped enter
   pub visits-long : length d ≡ places.mostVertices
   pub entries-long : length e ≡ places.mostVertices
   pub stays-long : length w ≡ places.mostVertices
   pub kept : Kept (loopsIn l) e w turns x
-  pub upto : SolvedUpto (starts (edgesIn l)) (ends (edgesIn l)) (edgeCount l) (loopsIn l) (byVertex charge) (λ k. 0) (byVertex d) (byHeader e) turns cap x done
+  pub upto :
+      SolvedUpto (starts (edgesIn l)) (ends (edgesIn l)) (edgeCount l) (loopsIn l) (byVertex charge) (byHeader enter) (byVertex d) (byHeader e) turns cap x done
 
 -- Which loops are done: before vertex x, where no loop ends at x;
 abbrev pub Before : ℕ → Loop → Type 0
@@ -42,11 +44,11 @@ abbrev pub After : ℕ → ℕ → Loop → Type 0
 After header last k = (k .last < header) ⊎ ((header ≤ k .header) × (k .last ≤ last))
 
 -- The tables as loop k is come to, and as it is passed.
-abbrev pub ToLoop : (l charge d e w : List ℕ) → Loop → Type 0
-ToLoop l charge d e w k = Filling l charge d e w (k .header) (Before (k .header))
+abbrev pub ToLoop : (l charge enter d e w : List ℕ) → Loop → Type 0
+ToLoop l charge enter d e w k = Filling l charge enter d e w (k .header) (Before (k .header))
 
-abbrev pub PastLoop : (l charge d e w : List ℕ) → Loop → Type 0
-PastLoop l charge d e w k = Filling l charge d e w (k .last + 1) (After (k .header) (k .last))
+abbrev pub PastLoop : (l charge enter d e w : List ℕ) → Loop → Type 0
+PastLoop l charge enter d e w k = Filling l charge enter d e w (k .last + 1) (After (k .header) (k .last))
 
 -- The vertices from `first` to `to`, the latter not counted: a loop is behind them, around them, or whole among them.
 pub record Part (l : List ℕ) (first to : ℕ) : Type 0 where
@@ -56,8 +58,8 @@ pub record Part (l : List ℕ) (first to : ℕ) : Type 0 where
   pub whole : (k : Loop) → List·Memᴰ k (loopsIn l) → first ≤ k .header → k .header < to → k .last < to
 
 -- A part filled up to v, with the loops that begin below v.
-pub record Partly (l charge d e w : List ℕ) (first to v : ℕ) : Type 0 where
+pub record Partly (l charge enter d e w : List ℕ) (first to v : ℕ) : Type 0 where
   pub low : first ≤ v
   pub high : v ≤ to
   pub whole : (k : Loop) → List·Memᴰ k (loopsIn l) → first ≤ k .header → k .header < v → k .last < v
-  pub filling : Filling l charge d e w v (Since first v)
+  pub filling : Filling l charge enter d e w v (Since first v)

@@ -10,7 +10,7 @@ use Rattle.lookup.specs.Lists.{edgesIn}
 use Rattle.lookup.specs.Plain.{rangeOf}
 use Rattle.greatest.specs.Numbers.{starts, ends, best}
 use Rattle.chains.specs.Chains.{edgeCount}
-use Rattle.stays.specs.Tables.{cap, Capped, byVertex}
+use Rattle.stays.specs.Tables.{cap, Capped, byHeader, byVertex}
 use Rattle.stays.specs.Leaving.{leaving}
 use Rattle.offers.specs.declared.Origin.{Origin}
 use Rattle.offers.specs.declared.Origin.the-variants.{Anywhere, Outside, Inside}
@@ -39,12 +39,14 @@ offered l d w v more origin i = cond (eqb (ends (edgesIn l) i) v && comes origin
 unfoldable pub bestInto : List ℕ → List ℕ → List ℕ → ℕ → ℕ → Origin → ℕ → ℕ
 bestInto l d w v more origin m = best (starts (edgesIn l)) (ends (edgesIn l)) (comes origin) (brought l d w v more) v m
 
--- The number of a vertex that is no header, of entering a loop, and of a loop's iteration. What is before a walk's start is nothing.
+-- The number of a vertex that is no header, of entering a loop, and of a loop's iteration, with what a visit and an entry pay by vertex and by header.
+-- What is before a walk's start is nothing.
 unfoldable pub visitNumber : List ℕ → List ℕ → List ℕ → List ℕ → ℕ → ℕ
 visitNumber l charge d w v = cond (eqb v 0) (byVertex charge v) (bestInto l d w v (byVertex charge v) Anywhere (edgeCount l))
 
-unfoldable pub entryNumber : List ℕ → List ℕ → List ℕ → Loop → ℕ
-entryNumber l d w k = cond (eqb (k .header) 0) 0 (bestInto l d w (k .header) 0 (Outside (k .header) (k .last)) (edgeCount l))
+unfoldable pub entryNumber : List ℕ → List ℕ → List ℕ → List ℕ → Loop → ℕ
+entryNumber l enter d w k =
+    cond (eqb (k .header) 0) (byHeader enter k) (bestInto l d w (k .header) (byHeader enter k) (Outside (k .header) (k .last)) (edgeCount l))
 
 unfoldable pub turnNumber : List ℕ → List ℕ → List ℕ → Loop → ℕ
 turnNumber l d w k = bestInto l d w (k .header) 0 (Inside (k .header) (k .last)) (edgeCount l)

@@ -80,7 +80,7 @@ fn best_into(
     best
 }
 
-// The number of a vertex that is no header: the greatest charges since the iteration around it began, or since the walk's start.
+// The number of a vertex that is no header: the greatest weight since the iteration around it began, or since the walk's start.
 pub fn visit_number(
     l: &Numbers,
     edges: &EdgeTable,
@@ -100,21 +100,23 @@ pub fn visit_number(
     best_into(l, edges, loops, d, w, v, own, Origin::Anywhere)
 }
 
-// The number of entering loop i: the greatest charges that the iteration around it, or the walk, has by then.
+// The number of entering loop i: the greatest weight that the iteration around it, or the walk, has with the entry.
 pub fn entry_number(
     l: &Numbers,
     edges: &EdgeTable,
     loops: &LoopTable,
+    enter: &VertexTable,
     d: &VertexTable,
     w: &VertexTable,
     i: usize,
 ) -> Cycles
-    requires { ⌜ Chained (now l) (now edges) (now loops) ⌝ ∗ ⌜ Ready (now l) (now d) (now w) ⌝ ∗ ⌜ i < length (loopsIn (now l)) ⌝ }
-    ensures { λ r. ⌜ r .0 ≡ entryNumber (now (l .entry)) (now (d .entry)) (now (w .entry)) (loop (loopsIn (now (l .entry))) i) ⌝ }
+    requires { ⌜ Chained (now l) (now edges) (now loops) ⌝ ∗ ⌜ Ready (now l) (now d) (now w) ⌝ ∗ ⌜ Capped (now enter) ⌝ ∗ ⌜ i < length (loopsIn (now l)) ⌝ }
+    ensures { λ r. ⌜ r .0 ≡ entryNumber (now (l .entry)) (now (enter .entry)) (now (d .entry)) (now (w .entry)) (loop (loopsIn (now (l .entry))) i) ⌝ }
 {
     let header = lookup::loop_header(l, i);
+    let entry = Cycles(enter[header]);
     if header == 0 {
-        return Cycles(0);
+        return entry;
     }
     best_into(
         l,
@@ -123,12 +125,12 @@ pub fn entry_number(
         d,
         w,
         header,
-        Cycles(0),
+        entry,
         Origin::Outside(header, lookup::loop_last(l, i)),
     )
 }
 
-// The number of loop i's iteration: the greatest charges from its header until just before the next visit to it.
+// The number of loop i's iteration: the greatest weight from its header until just before the next visit to it.
 pub fn turn_number(
     l: &Numbers,
     edges: &EdgeTable,

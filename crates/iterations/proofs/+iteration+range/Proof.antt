@@ -27,25 +27,25 @@ use Rattle.offers.proofs.visit_number.Reads as visit-number-reads
 use Rattle.iterations.proofs.+iteration+range.{statement}
 use Rattle.iterations.proofs.+iteration+range.Tie.{close}
 
-abbrev μ-iteration : Measures 7 iteration-kinds.ps ℕ
+abbrev μ-iteration : Measures 8 iteration-kinds.ps ℕ
 μ-iteration κs a =
-    2 * (loop (loopsIn (a .0 .now)) (a .1 .1 .1 .1 .1 .1 .1 .0) .last + 1 - loop (loopsIn (a .0 .now)) (a .1 .1 .1 .1 .1 .1 .1 .0) .header)
+    2 * (loop (loopsIn (a .0 .now)) (a .1 .1 .1 .1 .1 .1 .1 .1 .0) .last + 1 - loop (loopsIn (a .0 .now)) (a .1 .1 .1 .1 .1 .1 .1 .1 .0) .header)
 
-abbrev μ-range : Measures 7 range-kinds.ps ℕ
-μ-range κs a = 2 * (a .1 .1 .1 .1 .1 .1 .1 .1 .0 - a .1 .1 .1 .1 .1 .1 .1 .0) + 1
+abbrev μ-range : Measures 8 range-kinds.ps ℕ
+μ-range κs a = 2 * (a .1 .1 .1 .1 .1 .1 .1 .1 .1 .0 - a .1 .1 .1 .1 .1 .1 .1 .1 .0) + 1
 
-abbrev iteration-at : ℕ → In 7 iteration-kinds.ps
-iteration-at t = and 7 iteration-kinds.ps (is 7 iteration-kinds.ps μ-iteration t) iteration.Pre
+abbrev iteration-at : ℕ → In 8 iteration-kinds.ps
+iteration-at t = and 8 iteration-kinds.ps (is 8 iteration-kinds.ps μ-iteration t) iteration.Pre
 
-abbrev iteration-below : ℕ → In 7 iteration-kinds.ps
+abbrev iteration-below : ℕ → In 8 iteration-kinds.ps
 iteration-below t =
-    and 7 iteration-kinds.ps (falls 7 iteration-kinds.ps _<_ μ-iteration t) iteration.Pre
+    and 8 iteration-kinds.ps (falls 8 iteration-kinds.ps _<_ μ-iteration t) iteration.Pre
 
-abbrev range-at : ℕ → In 7 range-kinds.ps
-range-at t = and 7 range-kinds.ps (is 7 range-kinds.ps μ-range t) range.Pre
+abbrev range-at : ℕ → In 8 range-kinds.ps
+range-at t = and 8 range-kinds.ps (is 8 range-kinds.ps μ-range t) range.Pre
 
-abbrev range-below : ℕ → In 7 range-kinds.ps
-range-below t = and 7 range-kinds.ps (falls 7 range-kinds.ps _<_ μ-range t) range.Pre
+abbrev range-below : ℕ → In 8 range-kinds.ps
+range-below t = and 8 range-kinds.ps (falls 8 range-kinds.ps _<_ μ-range t) range.Pre
 
 -- What the callees of `iteration` ask and give.
 abbrev iteration-calls : ℕ → iteration-lts.Claims
@@ -132,7 +132,7 @@ module _ (t : ℕ) where
   iteration-loop-last-requires c κs = let p = c .before .pre .1 .1 in (facts (p .1 .ready .checked), p .0)
 
   iteration-entry-number-requires : iteration-lts.Need-entry-number-requires (iteration-calls t) (iteration-at t) iteration.Post
-  iteration-entry-number-requires c κs = let p = begun (c .before .before) .pre .1 in (p .0, (p .1 .1 .ready, p .1 .0))
+  iteration-entry-number-requires c κs = let p = begun (c .before .before) .pre .1 in (p .0, (p .1 .1 .ready, (p .1 .1 .enters, p .1 .0)))
 
   iteration-mul-e : iteration-lts.Need-mul-e (iteration-calls t) (iteration-at t) iteration.Post
   iteration-mul-e c = omega (arith, range-small (its-range (ranged c)))
@@ -179,11 +179,11 @@ module _ (t : ℕ) where
       let p = begun (ranged (entered (in-loop .before))) .pre .1 in
       (p .0, (in-loop .range .ensures .ready, p .1 .0))
 
-  iteration-mul-t16 : iteration-lts.Need-mul-t16 (iteration-calls t) (iteration-at t) iteration.Post
-  iteration-mul-t16 c = omega (arith, range-small (its-range (from-turn c)))
+  iteration-mul-t17 : iteration-lts.Need-mul-t17 (iteration-calls t) (iteration-at t) iteration.Post
+  iteration-mul-t17 c = omega (arith, range-small (its-range (from-turn c)))
 
-  iteration-element-copy-out-t23 : iteration-lts.Need-element-copy-out-t23 (iteration-calls t) (iteration-at t) iteration.Post
-  iteration-element-copy-out-t23 c = omega (arith, range-small (its-range (from-turn c)))
+  iteration-element-copy-out-t24 : iteration-lts.Need-element-copy-out-t24 (iteration-calls t) (iteration-at t) iteration.Post
+  iteration-element-copy-out-t24 c = omega (arith, range-small (its-range (from-turn c)))
 
   iteration-stay-in-requires : iteration-lts.Need-stay-in-requires (iteration-calls t) (iteration-at t) iteration.Post
   iteration-stay-in-requires c κs =
@@ -202,10 +202,10 @@ module _ (t : ℕ) where
       end-loop (its-range (from-turn turn)) (inside turn .range .ensures) (turn .turn-number .ensures) (c .stay-in .ensures)
 
 abbrev range-Inv-loop : range-lts.InvT-loop
-range-Inv-loop l edges loops charge d₀ e₀ w₀ first to count v₀ d e w v = Partly l charge d e w first to v
+range-Inv-loop l edges loops charge enter d₀ e₀ w₀ first to count v₀ d e w v = Partly l charge enter d e w first to v
 
 abbrev range-μ-loop : range-lts.MeasureT-loop
-range-μ-loop l edges loops charge d₀ e₀ w₀ first to count v₀ d e w v = to - v
+range-μ-loop l edges loops charge enter d₀ e₀ w₀ first to count v₀ d e w v = to - v
 
 -- `range`, by its states: a vertex is next; a loop begins there, and is passed; none does, and the vertex has its number.
 module _ (t : ℕ) where
@@ -237,7 +237,7 @@ module _ (t : ℕ) where
   plain c = c .before .before .before
 
   at-vertex : (c : Next) →
-      AtVertex (opened c .args .l .now) (opened c .args .charge .now) (c .before .loop .d) (c .before .loop .e) (c .before .loop .w)
+      AtVertex (opened c .args .l .now) (opened c .args .charge .now) (opened c .args .enter .now) (c .before .loop .d) (c .before .loop .e) (c .before .loop .w)
       (opened c .args .first) (opened c .args .to) (c .before .loop .v)
   at-vertex c = record { part = opened c .pre .1 .1 .0; so-far = c .before .loop .inv; more = c .loop-test .taken }
 
@@ -332,8 +332,8 @@ pub +iteration+range-spec : {M : Type 1} → statement M
     (iteration-add-range-2 t)
     (iteration-range-requires t)
     (iteration-turn-number-requires t)
-    (iteration-mul-t16 t)
-    (iteration-element-copy-out-t23 t)
+    (iteration-mul-t17 t)
+    (iteration-element-copy-out-t24 t)
     (iteration-stay-in-requires t)
     (iteration-mul-w-2 t)
     (iteration-element-write-w-2 t)
