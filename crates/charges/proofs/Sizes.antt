@@ -1,4 +1,4 @@
--- How large the visit charges and first loads of a checked problem are.
+-- How large the visit charges of a checked problem are.
 use Prim.Native.Nat.{ℕ, _+_, _≤_, _<_}
 use mathlib.Core.Path.{_≡_}
 use mathlib.Core.List.{List}
@@ -6,18 +6,17 @@ use mathlib.Core.Bool.{Bool, cond}
 use native.Mathlib.Omega.{arith}
 use Rattle.model.specs.Numbers.{problemOf}
 use Rattle.model.specs.Operations.{Checked}
-use Rattle.model.specs.Costs.{functionOf, ownCost, loadCost, total}
-use Rattle.model.specs.Charges.{visitCharge, firstLoads}
+use Rattle.model.specs.Costs.{functionOf, ownCost, loadCost}
+use Rattle.model.specs.Charges.{visitCharge}
 use Rattle.model.proofs.Cases.{by-cond}
 use Rattle.facts.specs.Fields.{FieldFacts}
-use Rattle.lookup.proofs.Places.{facts, few-functions, load-high, function-below, cost-high}
-use Rattle.regions.proofs.Sums.{Upto, total-more, total-high}
-use Rattle.charges.specs.Tests.{chargeLimit, firstLoad, firstLimit, LoadedFirst}
+use Rattle.lookup.proofs.Places.{facts, load-high, function-below, cost-high}
+use Rattle.charges.specs.Tests.{chargeLimit}
 use Rattle.model.specs.Limits as limits
 
 module _ (l : List ℕ) (checked : Checked l) where
   -- A load cost that is charged or not.
-  load-or-none : (t : Bool) (f : ℕ) → f < problemOf l .«function_count» → cond t (loadCost (problemOf l) f) 0 ≤ limits.mostCycles
+  pub load-or-none : (t : Bool) (f : ℕ) → f < problemOf l .«function_count» → cond t (loadCost (problemOf l) f) 0 ≤ limits.mostCycles
   load-or-none t f below = by-cond (λ (x : ℕ). x ≤ limits.mostCycles) t (λ e. load-high l (facts _ checked) f below) (λ e. omega arith)
 
   module _ (v : ℕ) (below : v < problemOf l .«vertex_count») {f : ℕ} (of-v : f ≡ functionOf (problemOf l) v) where
@@ -35,28 +34,3 @@ module _ (l : List ℕ) (checked : Checked l) where
         cost-high l (facts _ checked) v below,
         load-or-none (contested v) (functionOf (problemOf l) v) (function-below l (facts _ checked) v below),
       )
-
-  module _ (cold : ℕ → Bool) where
-    -- The first loads of some of the functions.
-    some-loads-high : (n : ℕ) → n ≤ problemOf l .«function_count» → total n (firstLoad (problemOf l) cold) ≤ firstLimit
-    unfolding firstLoad
-    some-loads-high n within =
-        omega (
-          arith,
-          few-functions l (facts _ checked),
-          total-high (firstLoad (problemOf l) cold) n limits.mostCycles (λ f h. load-or-none (cold f) f (omega arith)),
-        )
-
-    pub loads-fit : {f loads load : ℕ} → Upto (λ n. total n (firstLoad (problemOf l) cold)) (problemOf l .«function_count») f loads →
-        f < problemOf l .«function_count» → load ≡ firstLoad (problemOf l) cold f → loads + load ≤ firstLimit
-    loads-fit {f} upto below load-is =
-        omega (
-          arith,
-          upto .is,
-          total-more (firstLoad (problemOf l) cold) f,
-          some-loads-high (f + 1) (omega arith),
-        )
-
-    pub loaded-first : {loads : ℕ} → loads ≡ firstLoads (problemOf l) cold → LoadedFirst (problemOf l) cold loads
-    unfolding firstLoads firstLoad
-    loaded-first is = record { loads-are = is; small = omega (arith, some-loads-high (problemOf l .«function_count») (omega arith)) }

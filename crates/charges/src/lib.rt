@@ -1,20 +1,17 @@
-// Contested vertices, visit charges and first loads, from tables of what regions may hold and of first reach. A problem is its checked numbers.
+// Contested vertices, from a table of what regions may hold, and visit charges by flags. A problem is its checked numbers.
 use model::Cycles;
 use model::Numbers;
 use model::places;
 use model::units;
 ghost use mathlib.Core.Path.{_≡_};
 ghost use mathlib.Core.Bool.{cond};
-ghost use mathlib.Core.Logic.{_↔_};
-ghost use Prim.Native.Nat.{ℕ, _<_};
+ghost use Prim.Native.Nat.{_<_};
 ghost use lib.ListN.{length, replicate};
 ghost use Rattle.model.specs.Numbers.{problemOf};
 ghost use Rattle.model.specs.Operations.{Checked};
 ghost use Rattle.model.specs.Charges.{visitCharge};
 ghost use Rattle.model.specs.Places.{mostVertices};
-ghost use Rattle.model.specs.Results.{Member};
-ghost use Rattle.bits.specs.Tests.{has};
-ghost use Rattle.charges.specs.Tests.{contestedBy, flagged, EarlyAt, ColdWord, firstLoad, Tallied, Charged, LoadedFirst};
+ghost use Rattle.charges.specs.Tests.{contestedBy, flagged, Tallied, Charged};
 
 // Whether some walk arrives at v with a rival of its function held: two words have a member in common.
 fn is_contested(
@@ -90,66 +87,4 @@ pub fn fill_charges(
         charge[v] = visit.0;
         v += 1;
     }
-}
-
-// The function of v, where v is not flagged and a walk reaches it with no earlier vertex of that function; else no function.
-fn early_at(
-    l: &Numbers,
-    flags: &[u8; places::MOST_VERTICES],
-    fresh: &[u32; places::MOST_VERTICES],
-    v: usize,
-) -> u32
-    requires { ⌜ Checked (now l) ⌝ ∗ ⌜ v < problemOf (now l) .«vertex_count» ⌝ }
-    ensures { λ r. ⌜ ((f : ℕ) → Member r f ↔ EarlyAt (problemOf (now (l .entry))) (now (flags .entry)) (now (fresh .entry)) f v) ⌝ }
-{
-    if flags[v] == 1 {
-        return 0;
-    }
-    let f = lookup::function_of(l, v);
-    fresh[v] & (1u32 << f)
-}
-
-// The cold functions.
-pub fn cold_functions(
-    l: &Numbers,
-    flags: &[u8; places::MOST_VERTICES],
-    fresh: &[u32; places::MOST_VERTICES],
-) -> u32
-    requires { ⌜ Checked (now l) ⌝ }
-    ensures { λ r. ⌜ ColdWord (problemOf (now (l .entry))) (now (flags .entry)) (now (fresh .entry)) r ⌝ }
-{
-    let count = lookup::vertex_count(l);
-    let mut cold: u32 = 0;
-    let mut v: usize = 0;
-    while v < count {
-        cold |= early_at(l, flags, fresh, v);
-        v += 1;
-    }
-    cold
-}
-
-// What a function adds to the first loads: its load cost where it is cold.
-fn first_load(l: &Numbers, cold: u32, f: usize) -> Cycles
-    requires { ⌜ Checked (now l) ⌝ ∗ ⌜ f < problemOf (now l) .«function_count» ⌝ }
-    ensures { λ r. ⌜ r .0 ≡ firstLoad (problemOf (now (l .entry))) (has cold) f ⌝ }
-{
-    if bits::has_bit(cold, f) {
-        return lookup::load_of(l, f);
-    }
-    Cycles(0)
-}
-
-// The load cost of each cold function once.
-pub fn first_loads(l: &Numbers, cold: u32) -> Cycles
-    requires { ⌜ Checked (now l) ⌝ }
-    ensures { λ r. ⌜ LoadedFirst (problemOf (now (l .entry))) (has cold) (r .0) ⌝ }
-{
-    let count = lookup::function_count(l);
-    let mut loads = Cycles(0);
-    let mut f: usize = 0;
-    while f < count {
-        loads = units::sum_of_cycles(loads, first_load(l, cold, f));
-        f += 1;
-    }
-    loads
 }

@@ -1,10 +1,10 @@
--- `charges::first_load` is the load cost of a cold function.
+-- `early::first_load` is the load cost of a cold function.
 use mathlib.Core.Path.{sym, _∙_}
 use Rattle.lookup.proofs.Places.{facts, few-functions}
-use Rattle.charges.specs.Tests.{firstLoad}
+use Rattle.early.specs.Early.{firstLoad}
 use native.Mathlib.Omega.{arith}
-use Rattle.charges.proofs.first_load.Statement.{statement}
-use Rattle.charges.proofs.first_load.Tie as tie
+use Rattle.early.proofs.first_load.Statement.{statement}
+use Rattle.early.proofs.first_load.Tie as tie
 
 has-bit-requires : tie.Need-has-bit-requires
 has-bit-requires c κs = omega (arith, few-functions _ (facts _ (c .pre .0)))

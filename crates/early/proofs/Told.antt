@@ -1,12 +1,13 @@
--- Tables that hold what regions may hold and the first reach of a checked problem tell which vertices are contested and which functions are cold; and
--- its walks stay among its vertices, so that charges which agree there come to the same.
+-- Tables that hold what regions may hold and the first reach of a checked problem tell which vertices are contested or early and which functions are cold.
+-- Its walks stay among its vertices.
 use Prim.Native.Nat.{ℕ, _/_, _%_, _^_, _<_}
-use mathlib.Core.Path.{_≡_, refl, sym, ap, _∙_}
-use mathlib.Core.List.{List, _∷_}
-use mathlib.Core.Bool.{Bool, true}
+use mathlib.Core.Path.{_≡_, sym, ap, _∙_}
+use mathlib.Core.List.{List}
+use mathlib.Core.Bool.{true}
 use mathlib.Core.Logic.{_↔_}
 use native.Mathlib.Omega.{arith}
 use lib.ListN.{getD}
+use lib.Dec.{ltb}
 use borrow.Author.Tests.{eqb-true, eq-eqb, ltb-true, lt-ltb}
 use Rattle.model.specs.declared.Edge.{Edge}
 use Rattle.model.specs.Zero.{zeroEdge}
@@ -16,11 +17,12 @@ use Rattle.model.specs.Costs.{functionOf}
 use Rattle.model.specs.Walks.{EdgeOf, Walk, start, step}
 use Rattle.model.specs.Layouts.{regionOf}
 use Rattle.model.specs.Interference.{Contested}
-use Rattle.model.specs.Charges.{Told, visitCharge, charges}
+use Rattle.model.specs.Charges.{Told}
 use Rattle.model.specs.Results.{Member}
+use Rattle.model.proofs.Cases.{and-left}
 use Rattle.model.proofs.Lists.{index-of}
 use Rattle.lookup.proofs.Places.{facts, some-vertex, function-below, to-below}
-use Rattle.sound.specs.Decide.{EarlyVertex}
+use Rattle.sound.specs.Decide.{earlyTest}
 use Rattle.sound.proofs.Held.{contested-held}
 use Rattle.sound.proofs.Decide.{told}
 use Rattle.reach.specs.Fresh.{FreshTable}
@@ -29,11 +31,13 @@ use Rattle.held.specs.Flow.{HeldTable}
 use Rattle.bits.proofs.Members.{common}
 use Rattle.held.proofs.Flow.{held-known}
 use Rattle.bits.specs.Tests.{has}
-use Rattle.charges.specs.Tests.{freshTest, sharedTest, contestedBy, FlagsTell, ColdWord, Charged}
+use Rattle.charges.specs.Tests.{sharedTest, contestedBy, FlagsTell}
 use Rattle.charges.proofs.Flags.{flag-told}
+use Rattle.early.specs.Early.{freshTest, earlyBy, earlyTold, EarlyTable, Gathered}
+use Rattle.early.proofs.Words.{word-members}
 
 -- A bit's test, for what its being set says.
-told-by-bit : (word g : ℕ) {P : Type 0} → Member word g ↔ P → (has word g ≡ true) ↔ P
+pub told-by-bit : (word g : ℕ) {P : Type 0} → Member word g ↔ P → (has word g ≡ true) ↔ P
 unfolding has
 told-by-bit word g iff = (λ e. iff .0 (eqb-true (word / 2 ^ g % 2) 1 e), λ x. eq-eqb (word / 2 ^ g % 2) 1 (iff .1 x))
 
@@ -50,25 +54,10 @@ module _ {l : List ℕ} (checked : Checked l) where
   pub walk-function : {v : ℕ} {h : List ℕ} → Walk (EdgeOf (problemOf l)) v h → functionOf (problemOf l) v < problemOf l .«function_count»
   walk-function {v} walk = function-below l (facts _ checked) v (walk-below walk)
 
-  -- Charges that agree on the vertices come to the same on a walk, without the vertex that it arrives at and with it.
-  module _ (c c′ : ℕ → ℕ) (same : (v : ℕ) → v < problemOf l .«vertex_count» → c v ≡ c′ v) where
-    pub charges-before : {v : ℕ} {h : List ℕ} → Walk (EdgeOf (problemOf l)) v h → charges c h ≡ charges c′ h
-    unfolding charges
-    charges-before start = refl
-    charges-before (step {u} walk edge) = rw (charges-before walk, same u (walk-below walk))
-
-    pub charges-agree : {v : ℕ} {h : List ℕ} → Walk (EdgeOf (problemOf l)) v h → charges c (v ∷ h) ≡ charges c′ (v ∷ h)
-    unfolding charges
-    charges-agree {v} walk = rw (charges-before walk, same v (walk-below walk))
-
-  -- A table of visit charges, read along a walk.
-  pub charges-table : {test : ℕ → Bool} {charge : List ℕ} → Charged (problemOf l) test charge → {v : ℕ} {h : List ℕ} → Walk (EdgeOf (problemOf l)) v h →
-      charges (λ u. getD charge u 0) (v ∷ h) ≡ charges (visitCharge (problemOf l) test) (v ∷ h)
-  charges-table {test} {charge} charged walk = charges-agree (λ u. getD charge u 0) (visitCharge (problemOf l) test) (charged .charged) walk
-
-  module _ (layout rivals held fresh flags : List ℕ) (cold : ℕ) (is-rivals : RivalTable (problemOf l) layout rivals)
+  module _ (layout rivals held fresh flags words : List ℕ) (cold : ℕ) (is-rivals : RivalTable (problemOf l) layout rivals)
       (is-held : HeldTable (problemOf l) rivals held) (is-fresh : FreshTable (problemOf l) fresh)
-      (kept : FlagsTell (problemOf l .«vertex_count») (contestedBy (problemOf l) rivals held) flags) (is-cold : ColdWord (problemOf l) flags fresh cold) where
+      (kept : FlagsTell (problemOf l .«vertex_count») (contestedBy (problemOf l) rivals held) flags)
+      (is-early : EarlyTable (problemOf l) (earlyBy (problemOf l) flags fresh) words) (is-cold : Gathered words 0 (problemOf l .«vertex_count») cold) where
     module _ (v : ℕ) (below : v < problemOf l .«vertex_count») where
       abbrev f : ℕ
       f = functionOf (problemOf l) v
@@ -91,20 +80,33 @@ module _ {l : List ℕ} (checked : Checked l) where
             )),
       )
 
-    early : (f : ℕ) → (has cold f ≡ true) ↔ EarlyVertex (problemOf l) (sharedTest rivals held (problemOf l)) (freshTest fresh (problemOf l)) f
-    unfolding contestedBy
-    early f = told-by-bit cold f (
-      λ m. let (v, below, is) = is-cold .member f .0 m in (v, below, is .of, sym (flag-told kept v below) ∙ is .free, is .first),
-      λ (v, below, of-f, free, first). is-cold .member f .1 (v, below, record { of = of-f; free = flag-told kept v below ∙ free; first = first }),
+    -- What flags say of early vertices is what the tables say.
+    pub flags-early : (v : ℕ) → v < problemOf l .«vertex_count» → earlyBy (problemOf l) flags fresh v ≡ earlyTold (problemOf l) rivals held fresh v
+    unfolding earlyBy earlyTold earlyTest contestedBy
+    flags-early v below = rw (flag-told kept v below, lt-ltb v (problemOf l .«vertex_count») below)
+
+    early-below : (v : ℕ) → earlyTold (problemOf l) rivals held fresh v ≡ true → v < problemOf l .«vertex_count»
+    unfolding earlyTold earlyTest
+    early-below v e = ltb-true v (problemOf l .«vertex_count») (and-left (ltb v (problemOf l .«vertex_count»)) _ e)
+
+    coldest : (f : ℕ) → (has cold f ≡ true) ↔ ((v : ℕ) × (functionOf (problemOf l) v ≡ f) × (earlyTold (problemOf l) rivals held fresh v ≡ true))
+    coldest f = told-by-bit cold f (
+      λ m.
+          let (v, low, below, x) = is-cold .member f .0 m in
+          let (of-f, early) = word-members is-early v below f .0 x in
+          (v, of-f, sym (flags-early v below) ∙ early),
+      λ (v, of-f, early).
+          let below = early-below v early in
+          is-cold .member f .1 (v, omega arith, below, word-members is-early v below f .1 (of-f, flags-early v below ∙ early)),
     )
 
-    pub told-by-tables : Told (problemOf l) layout (contestedBy (problemOf l) rivals held) (has cold)
-    unfolding contestedBy
+    pub told-by-tables : Told (problemOf l) layout (contestedBy (problemOf l) rivals held) (earlyTold (problemOf l) rivals held fresh) (has cold)
+    unfolding contestedBy earlyTold
     told-by-tables =
         told (problemOf l) layout (sharedTest rivals held (problemOf l)) (freshTest fresh (problemOf l)) (has cold)
         (record {
           vertex = λ v h walk. walk-below walk;
           contested = shared;
           reached = λ v below. told-by-bit (getD fresh v 0) _ (is-fresh .member v (functionOf (problemOf l) v) below (function-below l (facts _ checked) v below));
-          early = early;
+          coldest = coldest;
         })

@@ -1,4 +1,4 @@
--- `charges::first_loads` adds up the first loads of the functions passed.
+-- `early::first_loads` adds up the first loads of the functions passed.
 use Prim.Native.Nat.{_+_, _-_}
 use mathlib.Core.Path.{refl}
 use native.Mathlib.Omega.{arith}
@@ -8,17 +8,17 @@ use Rattle.model.specs.Costs.{total}
 use Rattle.model.specs.Charges.{firstLoads}
 use Rattle.regions.proofs.Sums.{Upto, turn, end, total-more}
 use Rattle.bits.specs.Tests.{has}
-use Rattle.charges.specs.Tests.{firstLoad}
-use Rattle.charges.proofs.Sizes.{loads-fit, loaded-first}
-use Rattle.charges.proofs.first_loads.Statement.{statement}
-use Rattle.charges.proofs.first_loads.Tie as tie
+use Rattle.early.specs.Early.{firstLoad}
+use Rattle.early.proofs.Sizes.{loads-fit, loaded-first}
+use Rattle.early.proofs.first_loads.Statement.{statement}
+use Rattle.early.proofs.first_loads.Tie as tie
 
 abbrev Inv-loop : tie.InvT-loop
-Inv-loop l cold count loads₀ f₀ loads f =
-    Upto (λ n. total n (firstLoad (problemOf l) (has cold))) (problemOf l .«function_count») f (loads .0)
+Inv-loop l functions count loads₀ f₀ loads f =
+    Upto (λ n. total n (firstLoad (problemOf l) (has functions))) (problemOf l .«function_count») f (loads .0)
 
 abbrev μ-loop : tie.MeasureT-loop
-μ-loop l cold count loads₀ f₀ loads f = count - f
+μ-loop l functions count loads₀ f₀ loads f = count - f
 
 abbrev start : tie.At-loop Inv-loop μ-loop → tie.Start Inv-loop μ-loop
 start c = c .before .before
