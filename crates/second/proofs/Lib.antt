@@ -1,0 +1,3 @@
+pub mod Outer
+pub mod Flags
+pub mod Entries
