@@ -1,3 +1,4 @@
 pub mod Stages
 pub mod Prices
 pub mod Decided
+pub mod Theorems

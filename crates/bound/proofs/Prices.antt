@@ -1,6 +1,7 @@
--- What pricing computes is Bound's result: the tables tell contested and cold, the greatest charges are the visit charges', and no lawful walk runs longer.
-use Prim.Native.Nat.{ℕ, _+_, _≤_, _<_}
-use mathlib.Core.Path.{_≡_, refl, sym, _∙_, ap}
+-- What pricing computes is Bound's result: the tables tell contested, early and cold, the greatest sums are those of the two totals, and no lawful walk runs
+-- longer than the smaller.
+use Prim.Native.Nat.{ℕ, _≤_, _<_}
+use mathlib.Core.Path.{_≡_, refl, _∙_}
 use mathlib.Core.List.{List, _∷_}
 use mathlib.Core.Bool.{Bool}
 use native.Mathlib.Omega.{arith}
@@ -8,45 +9,57 @@ use Rattle.model.specs.declared.Bytes.{Bytes}
 use Rattle.model.specs.declared.Cycles.{Cycles}
 use Rattle.model.specs.Numbers.{problemOf}
 use Rattle.model.specs.Operations.{Checked}
-use Rattle.model.specs.Walks.{lastVertex, Lawful, Greatest}
+use Rattle.model.specs.Graph.{loopsOf}
+use Rattle.model.specs.Walks.{lastVertex}
 use Rattle.model.specs.Layouts.{needOf}
-use Rattle.model.specs.Charges.{Told, visitCharge, firstLoads, charges}
+use Rattle.model.specs.Charges.{Told, visitCharge, secondCharge, entryCharge, secondTotal, charges}
 use Rattle.model.specs.Results.{boundLimit, BoundIs, PastTheLimit}
-use Rattle.model.proofs.Cases.{by-order, by-less}
+use Rattle.model.proofs.Cases.{by-less}
 use Rattle.sound.proofs.Sound.{cycles-covered}
+use Rattle.greatest.specs.Greatest.{GreatestCapped}
+use Rattle.greatest.proofs.Weights.{charges-below}
+use Rattle.firsts.proofs.Second.{cycles-second}
+use Rattle.firsts.proofs.Smaller.{below-smaller, ordered, greatest-first, smaller-total, first-past, second-past}
 use Rattle.reach.specs.Fresh.{FreshTable}
 use Rattle.rivals.specs.Rivals.{RivalTable}
 use Rattle.held.specs.Flow.{HeldTable}
 use Rattle.bits.specs.Tests.{has}
-use Rattle.charges.specs.Tests.{contestedBy, flagged, Tallied, Charged, ColdWord, LoadedFirst}
-use Rattle.charges.proofs.Flags.{charged-told}
-use Rattle.charges.proofs.Told.{walk-function, charges-table, told-by-tables}
-use Rattle.stays.specs.Tables.{cap, byVertex}
-use Rattle.iterations.specs.Greatest.{GreatestCapped}
-use Rattle.totals.specs.Totals.{total, withTotal, totalled}
+use Rattle.charges.specs.Tests.{contestedBy, flagged, Tallied}
+use Rattle.charges.proofs.Flags.{flag-told}
+use Rattle.early.specs.Early.{earlyBy, earlyTold, EarlyTable, earlyIn, Gathered, LoadedFirst}
+use Rattle.early.proofs.Words.{word-told}
+use Rattle.early.proofs.Told.{walk-below, walk-function, flags-early, told-by-tables}
+use Rattle.chains.proofs.Checks.{rules-of, order-of}
+use Rattle.stays.specs.Tables.{cap}
+use Rattle.sums.proofs.Agree.{charges-agree, totals-agree}
+use Rattle.totals.specs.Totals.{smaller, withTotal, totalled}
 use Rattle.bound.specs.Priced.{Priced}
 
 -- The tables that pricing fills, and the numbers that it finds by them.
-pub record Computed (l layout : List ℕ) (tally : ℕ) (first greatest : Cycles) : Type 0 where
+pub record Computed (l layout : List ℕ) (tally : ℕ) (first greatest second : Cycles) : Type 0 where
   pub checked : Checked l
   pub rivals : List ℕ
   pub held : List ℕ
   pub fresh : List ℕ
   pub flags : List ℕ
-  pub charge : List ℕ
+  pub words : List ℕ
   pub coldest : ℕ
   pub is-rivals : RivalTable (problemOf l) layout rivals
   pub is-held : HeldTable (problemOf l) rivals held
   pub is-fresh : FreshTable (problemOf l) fresh
   pub tallied : Tallied (problemOf l .«vertex_count») (contestedBy (problemOf l) rivals held) flags tally
-  pub charged : Charged (problemOf l) (flagged flags) charge
-  pub is-cold : ColdWord (problemOf l) flags fresh coldest
+  pub is-early : EarlyTable (problemOf l) (earlyBy (problemOf l) flags fresh) words
+  pub is-cold : Gathered words 0 (problemOf l .«vertex_count») coldest
   pub loaded : LoadedFirst (problemOf l) (has coldest) (first .0)
-  pub greatest-is : GreatestCapped (problemOf l) (byVertex charge) (greatest .0)
+  pub greatest-is : GreatestCapped (problemOf l) cap (charges (visitCharge (problemOf l) (flagged flags))) (greatest .0)
+  pub second-is : GreatestCapped (problemOf l) cap (secondTotal (problemOf l) (flagged flags) (earlyIn words)) (second .0)
 
-module _ {l layout : List ℕ} {tally : ℕ} {first greatest : Cycles} (found : Computed l layout tally first greatest) where
+module _ {l layout : List ℕ} {tally : ℕ} {first greatest second : Cycles} (found : Computed l layout tally first greatest second) where
   abbrev contested : ℕ → Bool
   contested = contestedBy (problemOf l) (found .rivals) (found .held)
+
+  abbrev early : ℕ → Bool
+  early = earlyTold (problemOf l) (found .rivals) (found .held) (found .fresh)
 
   abbrev cold : ℕ → Bool
   cold = has (found .coldest)
@@ -54,56 +67,80 @@ module _ {l layout : List ℕ} {tally : ℕ} {first greatest : Cycles} (found : 
   abbrev visits : List ℕ → ℕ
   visits = charges (visitCharge (problemOf l) contested)
 
-  told : Told (problemOf l) layout contested cold
+  abbrev seconds : List ℕ → ℕ
+  seconds = secondTotal (problemOf l) contested early
+
+  told : Told (problemOf l) layout contested early cold
   told =
-      told-by-tables (found .checked) layout _ _ _ _ _ (found .is-rivals) (found .is-held) (found .is-fresh) (found .tallied .told) (found .is-cold)
+      told-by-tables (found .checked) layout _ _ _ _ _ _ (found .is-rivals) (found .is-held) (found .is-fresh) (found .tallied .told) (found .is-early) (found .is-cold)
 
-  same : (h : List ℕ) → Lawful (problemOf l) h → charges (byVertex (found .charge)) (lastVertex (problemOf l) ∷ h) ≡ visits (lastVertex (problemOf l) ∷ h)
-  unfolding byVertex
-  same h lawful = charges-table (found .checked) (charged-told (problemOf l) (found .tallied .told) (found .charged)) (lawful .walk)
+  -- What flags and words say of the vertices, the tests say.
+  same-contested : (v : ℕ) → v < problemOf l .«vertex_count» → flagged (found .flags) v ≡ contested v
+  same-contested = flag-told (found .tallied .told)
 
-  exact : greatest .0 < cap → Greatest (problemOf l) visits (greatest .0)
-  exact low =
-      let g = found .greatest-is .below low in
-      record {
-        above = λ h lawful. omega (arith, g .above h lawful, same h lawful);
-        reached = let (h, lawful, is) = g .reached in (h, lawful, sym (same h lawful) ∙ is);
-      }
+  same-early : (v : ℕ) → v < problemOf l .«vertex_count» → earlyIn (found .words) v ≡ early v
+  same-early v below =
+      word-told (found .is-early) v below
+      ∙ flags-early (found .checked) layout _ _ _ _ _ _ (found .is-rivals) (found .is-held) (found .is-fresh) (found .tallied .told) (found .is-early) (found .is-cold) v below
 
-  past-by : (h : List ℕ) → Lawful (problemOf l) h → boundLimit < visits (lastVertex (problemOf l) ∷ h) + firstLoads (problemOf l) cold → PastTheLimit (problemOf l) layout
-  past-by h lawful over = record { contested = contested; cold = cold; told = told; past = h; lawful = lawful; over = over }
+  visits-capped : GreatestCapped (problemOf l) cap visits (greatest .0)
+  visits-capped = charges-agree (found .checked) cap same-contested (found .greatest-is)
 
-  past : boundLimit < total first greatest → PastTheLimit (problemOf l) layout
+  seconds-capped : GreatestCapped (problemOf l) cap seconds (second .0)
+  seconds-capped = totals-agree (found .checked) cap same-contested same-early (found .second-is)
+
+  more : (v : ℕ) → visitCharge (problemOf l) contested v ≤ secondCharge (problemOf l) contested early v
+  unfolding secondCharge
+  more v = omega arith
+
+  -- No walk's visit charges pass its second total.
+  below : (h : List ℕ) → visits (lastVertex (problemOf l) ∷ h) ≤ seconds (lastVertex (problemOf l) ∷ h)
+  below h =
+      charges-below (loopsOf (problemOf l)) (visitCharge (problemOf l) contested) (secondCharge (problemOf l) contested early)
+      (entryCharge (problemOf l) early) more (lastVertex (problemOf l) ∷ h)
+
+  pub greatest-most : greatest .0 ≤ second .0
+  greatest-most = ordered (problemOf l) cap visits seconds _ _ (first .0) visits-capped seconds-capped below
+
+  past : boundLimit < smaller first greatest second → PastTheLimit (problemOf l) layout
   past over =
       let loads = found .loaded .loads-are in
-      by-order (greatest .0) cap
-      (λ low. let (h, lawful, is) = exact low .reached in past-by h lawful (omega arith))
-      (λ reaches. let (h, lawful, most) = found .greatest-is .at reaches in past-by h lawful (omega (arith, same h lawful)))
+      let (h, w, high) = first-past (problemOf l) cap visits seconds _ _ (first .0) visits-capped seconds-capped below (omega arith) in
+      let (k, v, high-too) = second-past (problemOf l) cap visits seconds _ _ (first .0) visits-capped seconds-capped below (omega arith) in
+      record {
+        contested = contested;
+        early = early;
+        cold = cold;
+        told = told;
+        over = (h, w, omega arith);
+        second-over = (k, v, omega arith);
+      }
 
   module _ (need : Bytes) (need-is : need .0 ≡ needOf (problemOf l) layout) where
-    bounded : total first greatest ≤ boundLimit → BoundIs (problemOf l) layout (withTotal need tally first greatest)
+    bounded : smaller first greatest second ≤ boundLimit → BoundIs (problemOf l) layout (withTotal need tally first greatest second)
     bounded within =
-        let g = exact (omega arith) in
         let loads = found .loaded .loads-are in
+        let g = greatest-first (problemOf l) cap visits seconds _ _ (first .0) visits-capped seconds-capped below (omega arith) in
+        let s = smaller-total (problemOf l) cap visits seconds _ _ (first .0) visits-capped seconds-capped below (omega arith) in
         record {
           contested = contested;
+          early = early;
           cold = cold;
           told = told;
           need-is = need-is;
           contested-are = found .tallied .tally-is;
-          first-is = loads;
           greatest = greatest .0;
           greatest-is = g;
-          bound-is = ap (λ (x : ℕ). greatest .0 + x) loads;
+          bound-is = rw (← loads) s;
+          first-is = omega (arith, greatest-most);
           within-limit = within;
           covers = λ h lawful.
-              omega (
-                arith,
-                g .above h lawful,
-                cycles-covered (problemOf l) layout contested cold told (λ v h walk. walk-function (found .checked) walk) (lawful .walk),
-              );
+              below-smaller (problemOf l) visits seconds (greatest .0) (first .0) (smaller first greatest second) g s _ h lawful
+              (rw loads (cycles-covered (problemOf l) layout contested early cold told (λ v h walk. walk-function (found .checked) walk) (lawful .walk)))
+              (cycles-second (problemOf l) layout contested early cold told (rules-of (found .checked)) (order-of (found .checked))
+              (λ v h walk. walk-below (found .checked) walk) (λ v h walk. walk-function (found .checked) walk) (lawful .walk));
         }
 
-    pub priced : Priced (problemOf l) layout (totalled need tally first greatest)
+    pub priced : Priced (problemOf l) layout (totalled need tally first greatest second)
     priced =
-        by-less (Priced (problemOf l) layout) boundLimit (total first greatest) (λ over. (refl, past over)) bounded
+        by-less (Priced (problemOf l) layout) boundLimit (smaller first greatest second) (λ over. (refl, past over)) bounded

@@ -1,4 +1,4 @@
-// Bound: the largest sum of visit charges over all lawful walks, plus the first loads.
+// Bound: the smaller of two totals, the greatest visit charges over all lawful walks plus the first loads, and the greatest second total.
 use layout::LayoutAnswer;
 use model::BoundAnswer;
 use model::Bytes;
@@ -29,12 +29,14 @@ pub fn price(l: &Numbers, layout: &[u8], need: Bytes) -> BoundAnswer
     reach::first_reach(l, &begins, &mut fresh);
     let mut flags = [0u8; places::MOST_VERTICES];
     let contested = charges::mark_contested(l, &rivals, &held, &mut flags);
-    let mut charge = [0u64; places::MOST_VERTICES];
-    charges::fill_charges(l, &flags, &mut charge);
-    let cold = charges::cold_functions(l, &flags, &fresh);
-    let first = charges::first_loads(l, cold);
-    let greatest = iterations::greatest_charges(l, &charge);
-    totals::answer_of(need, contested, first, greatest)
+    let early = early::early_words(l, &flags, &fresh);
+    let cold = early::functions_in(&early, 0, lookup::vertex_count(l));
+    let first = early::first_loads(l, cold);
+    let edges = chains::edge_chains(l);
+    let loops = chains::loop_chains(l);
+    let greatest = sums::greatest_charges(l, &edges, &loops, &flags);
+    let second = sums::greatest_second(l, &edges, &loops, &flags, &early);
+    totals::answer_of(need, contested, first, greatest, second)
 }
 
 // Bound on checked numbers: the layout, and its price.
@@ -52,7 +54,7 @@ pub fn bound_checked(l: &Numbers, layout: &[u8]) -> BoundAnswer
     price(l, whole, need)
 }
 
-// **Bound.** Bytes needed, contested vertices, first loads and the bound, or the first refusal that applies.
+// **Bound.** Bytes needed, contested vertices, the bound and what it has above the greatest visit charges, or the first refusal that applies.
 pub fn bound(problem: Problem, layout: &[u8]) -> BoundAnswer
     ensures { λ r. ⌜ BoundSays problem (now (layout .entry)) r ⌝ }
     ensures { λ r. ⌜ IsBounded problem (now (layout .entry)) (boundOutcome r) ⌝ }

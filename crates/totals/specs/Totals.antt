@@ -1,5 +1,5 @@
--- What Bound answers where the bytes needed, the contested vertices, the first loads and the greatest visit charges are found.
-use Prim.Native.Nat.{ℕ, _+_}
+-- What Bound answers where the bytes needed, the contested vertices, the first loads, the greatest visit charges and the greatest second total are found.
+use Prim.Native.Nat.{ℕ, _+_, _-_, min}
 use mathlib.Core.Bool.{cond}
 use lib.Dec.{ltb}
 use Rattle.model.specs.declared.Bytes.{Bytes}
@@ -10,13 +10,20 @@ use Rattle.model.specs.declared.BoundAnswer.the-variants.{Bounded, Refused}
 use Rattle.model.specs.declared.Refusal.the-variants.{BoundTooLarge}
 use Rattle.model.specs.Results.{boundLimit}
 
-abbrev pub total : Cycles → Cycles → ℕ
-total first greatest = greatest .0 + first .0
+-- The smaller of two totals: the greatest visit charges with the first loads, and the greatest second total.
+abbrev pub smaller : Cycles → Cycles → Cycles → ℕ
+smaller first greatest second = min (greatest .0 + first .0) (second .0)
 
-module _ (need : Bytes) (contested : ℕ) (first greatest : Cycles) where
+module _ (need : Bytes) (contested : ℕ) (first greatest second : Cycles) where
+  -- As first loads it shows what the bound has above the greatest visit charges.
   abbrev pub withTotal : Bound
-  withTotal = record { need = need; contested = contested; first = first; bound = record { 0 = total first greatest } }
+  withTotal = record {
+    need = need;
+    contested = contested;
+    first = record { 0 = smaller first greatest second - greatest .0 };
+    bound = record { 0 = smaller first greatest second };
+  }
 
   -- The total, or 14 where it passes the limit.
   abbrev pub totalled : BoundAnswer
-  totalled = cond (ltb boundLimit (total first greatest)) (Refused (BoundTooLarge 0)) (Bounded withTotal)
+  totalled = cond (ltb boundLimit (smaller first greatest second)) (Refused (BoundTooLarge 0)) (Bounded withTotal)
