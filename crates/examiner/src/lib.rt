@@ -70,7 +70,7 @@ pub extern "C" fn examiner_interference(file: &[u8], words: &mut [u32], answer: 
     outcomes::tell_filled(filled, answer)
 }
 
-// **Bound** of the problem that the file holds, with a layout: bytes needed, contested vertices, first loads, bound.
+// **Bound** of the problem that the file holds, with a layout: bytes needed, contested vertices, what first loads add, bound.
 #[no_mangle]
 pub extern "C" fn examiner_bound(file: &[u8], layout: &[u8], answer: &mut Answer) -> u32
     ensures { λ r. ⌜ Right (BoundTold (now (file .entry)) (now (layout .entry))) (now (answer .entry)) (now (answer .exit)) r ⌝ }

@@ -2,7 +2,7 @@
 use Prim.Native.Nat.{ℕ, _+_, _-_, _≤_}
 use mathlib.Core.Path.{_≡_, refl, subst, _∙_}
 use mathlib.Core.List.{List, [], _∷_}
-use mathlib.Core.Bool.{Bool, true, cond}
+use mathlib.Core.Bool.{cond}
 use lib.Dec.{eqb, ltb}
 use Rattle.model.specs.declared.Refusal.the-variants.{UnknownRegion}
 use Rattle.model.specs.declared.Problem.{Problem}
@@ -11,11 +11,10 @@ use Rattle.model.specs.Limits.{mostRegions}
 use Rattle.model.specs.Graph.{broken}
 use Rattle.model.specs.Costs.{sizeOf, loadCost, functionOf, ownCost, total, largest}
 use Rattle.model.specs.Layouts.{regionOf, largestIn, needOf, judgeRegions}
-use Rattle.model.specs.Walks.{EdgeOf, lastVertex}
-use Rattle.model.specs.Interference.{Contested, Cold}
-use Rattle.model.specs.Charges.{Told}
+use Rattle.model.specs.Walks.{lastVertex}
 use Rattle.model.specs.Runs.{held, hit, cycles, loads, heldNumber, heldAfter}
 use Rattle.model.specs.Results.{BoundIs, PastTheLimit}
+use Rattle.model.proofs.Told.{told-alike}
 
 module _ (a b : List ℕ) (same : regionOf a ≡ regionOf b) (p : Problem) where
   pub alike-regions : judgeRegions p a ≡ judgeRegions p b
@@ -39,27 +38,19 @@ module _ (a b : List ℕ) (same : regionOf a ≡ regionOf b) (p : Problem) where
   unfolding heldAfter
   alike-held h = λ i r. heldNumber p a (held (functionOf p) (same i) r h)
 
-  alike-told : {contested cold : ℕ → Bool} → Told p a contested cold → Told p b contested cold
-  alike-told {contested} {cold} told =
-      record {
-        contested-is = coe 0 1 (i. (v : ℕ) → contested v ≡ true → Contested (functionOf p) (EdgeOf p) (same i) v) (told .contested-is);
-        contested-all = coe 0 1 (i. (v : ℕ) → Contested (functionOf p) (EdgeOf p) (same i) v → contested v ≡ true) (told .contested-all);
-        cold-is = coe 0 1 (i. (f : ℕ) → cold f ≡ true → Cold (functionOf p) (EdgeOf p) (same i) f) (told .cold-is);
-        cold-all = coe 0 1 (i. (f : ℕ) → Cold (functionOf p) (EdgeOf p) (same i) f → cold f ≡ true) (told .cold-all);
-      }
-
   pub alike-bound : {x : Bound} → BoundIs p a x → BoundIs p b x
   alike-bound {x} is =
       record {
         contested = is .contested;
+        early = is .early;
         cold = is .cold;
-        told = alike-told (is .told);
+        told = told-alike refl refl same (is .told);
         need-is = is .need-is ∙ alike-need;
         contested-are = is .contested-are;
-        first-is = is .first-is;
         greatest = is .greatest;
         greatest-is = is .greatest-is;
         bound-is = is .bound-is;
+        first-is = is .first-is;
         within-limit = is .within-limit;
         covers = λ h lawful. subst (λ (n : ℕ). n ≤ x .bound .0) (alike-cycles (lastVertex p ∷ h)) (is .covers h lawful);
       }
@@ -68,9 +59,9 @@ module _ (a b : List ℕ) (same : regionOf a ≡ regionOf b) (p : Problem) where
   alike-past is =
       record {
         contested = is .contested;
+        early = is .early;
         cold = is .cold;
-        told = alike-told (is .told);
-        past = is .past;
-        lawful = is .lawful;
+        told = told-alike refl refl same (is .told);
         over = is .over;
+        second-over = is .second-over;
       }

@@ -2,16 +2,18 @@
 use Prim.Native.Nat.{ℕ, _+_, _-_, _*_}
 use mathlib.Core.Path.{_≡_, sym}
 use mathlib.Core.List.{List, List·Memᴰ}
-use mathlib.Core.Bool.{Bool, cond}
+use mathlib.Core.Bool.{Bool, cond, _&&_}
 use lib.ListN.{getD}
 use lib.Dec.{eqb}
 use Rattle.model.specs.declared.Problem.{Problem}
 use Rattle.model.specs.Zero.{zeroFunction, zeroVertex}
+use Rattle.model.specs.Search.{existsBelow}
+use Rattle.model.specs.Graph.{holds}
 use Rattle.model.specs.Costs.{sizeOf, loadCost, functionOf, ownCost, total, largest}
 use Rattle.model.specs.Limits.{mostRegions}
 use Rattle.model.specs.Layouts.{regionOf, largestIn, needOf}
-use Rattle.model.specs.Walks.{EdgeOf, lastVertex}
-use Rattle.model.specs.Charges.{visitCharge, firstLoads}
+use Rattle.model.specs.Walks.{EdgeOf, lastVertex, weights}
+use Rattle.model.specs.Charges.{outside, outermost, visitCharge, firstLoads, secondCharge, holdsEarly, entryCharge, secondTotal}
 use Rattle.model.specs.Operations.{SameProblem}
 use Rattle.model.specs.Verdicts.{wordCount}
 
@@ -62,3 +64,19 @@ module _ {p q : Problem} (same : SameProblem p q) where
   pub same-first : (cold : ℕ → Bool) → firstLoads p cold ≡ firstLoads q cold
   unfolding firstLoads
   same-first cold = λ i. total (same .«function_count» i) (λ f. cond (cold f) (same-load i f) 0)
+
+  module _ (early : ℕ → Bool) where
+    same-early : holdsEarly p early ≡ holdsEarly q early
+    unfolding holdsEarly
+    same-early = λ i l f. existsBelow (same .«vertex_count» i) (λ v. holds l v && (eqb (same-function i v) f && early v))
+
+    same-entry : entryCharge p early ≡ entryCharge q early
+    unfolding entryCharge
+    same-entry = λ i l. cond (outermost (same .loops i) l) (same-first (same-early i l) i) 0
+
+    same-second : (contested : ℕ → Bool) → secondCharge p contested early ≡ secondCharge q contested early
+    unfolding secondCharge
+    same-second contested = λ i v. same-charge contested i v + cond (outside (same .loops i) v && early v) (same-load i (same-function i v)) 0
+
+    pub same-total : (contested : ℕ → Bool) → secondTotal p contested early ≡ secondTotal q contested early
+    same-total contested = λ i. weights (same .loops i) (same-second contested i) (same-entry i)

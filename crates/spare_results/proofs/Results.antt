@@ -1,8 +1,8 @@
 -- What the definitions of Interference, Bound and Run say of a problem they say of every record that is the same but for spare places.
 use Prim.Native.Nat.{ℕ, _+_, _*_, _≤_, _<_}
-use mathlib.Core.Path.{_≡_, refl, sym, ap, subst, _∙_}
+use mathlib.Core.Path.{_≡_, refl, sym, ap, _∙_}
 use mathlib.Core.List.{List, [], _∷_, reverse}
-use mathlib.Core.Bool.{Bool, true, cond}
+use mathlib.Core.Bool.{Bool, cond}
 use mathlib.Core.Logic.{_↔_, inl, inr}
 use lib.ListN.{length, getD}
 use Rattle.model.specs.declared.Verdict.{Verdict}
@@ -18,16 +18,16 @@ use Rattle.model.specs.Zero.{cycles as cyclesOf}
 use Rattle.model.specs.Limits.{mostRegions}
 use Rattle.model.specs.Numbers.{table, Sized}
 use Rattle.model.specs.Costs.{howMany}
-use Rattle.model.specs.Walks.{Greatest}
 use Rattle.model.specs.Layouts.{regionOf}
-use Rattle.model.specs.Interference.{Interferes, Contested, Cold}
+use Rattle.model.specs.Interference.{Interferes}
 use Rattle.model.specs.Charges.{Told, charges}
 use Rattle.model.specs.Runs.{held, hit, cycles, loads, heldNumber, heldAfter}
 use Rattle.model.specs.Operations.{SameProblem}
 use Rattle.model.specs.Verdicts.{judgeBound, judgeRun}
 use Rattle.model.specs.Results.{Member, Sets, InterferenceSays, boundLimit, BoundIs, PastTheLimit, BoundSays, runAfter, runWalk, regionsAfter, runRegions}
-use Rattle.spare.proofs.Views.{same-sym, same-load, same-function, same-cost, same-edge, same-last, same-words, same-need, same-charge, same-first}
-use Rattle.spare.proofs.Walks.{lawful-too, greatest-too}
+use Rattle.model.proofs.Told.{told-alike}
+use Rattle.spare.proofs.Views.{same-load, same-function, same-cost, same-edge, same-words, same-need, same-charge, same-first, same-total}
+use Rattle.spare.proofs.Walks.{some-too, all-too, greatest-too, smaller-too}
 use Rattle.spare.proofs.Checks.{same-interference, same-bound, same-run}
 
 module _ {p q : Problem} (same : SameProblem p q) (layout : List ℕ) where
@@ -46,40 +46,35 @@ module _ {p q : Problem} (same : SameProblem p q) (layout : List ℕ) where
   unfolding heldAfter
   same-held h = λ i r. heldNumber p layout (held (same-function same i) (regionOf layout) r h)
 
-  told-too : {contested cold : ℕ → Bool} → Told p layout contested cold → Told q layout contested cold
-  told-too {contested} {cold} told =
-      record {
-        contested-is = coe 0 1 (i. (v : ℕ) → contested v ≡ true → Contested (same-function same i) (same-edge same i) (regionOf layout) v) (told .contested-is);
-        contested-all = coe 0 1 (i. (v : ℕ) → Contested (same-function same i) (same-edge same i) (regionOf layout) v → contested v ≡ true) (told .contested-all);
-        cold-is = coe 0 1 (i. (f : ℕ) → cold f ≡ true → Cold (same-function same i) (same-edge same i) (regionOf layout) f) (told .cold-is);
-        cold-all = coe 0 1 (i. (f : ℕ) → Cold (same-function same i) (same-edge same i) (regionOf layout) f → cold f ≡ true) (told .cold-all);
-      }
+  told-too : {contested early cold : ℕ → Bool} → Told p layout contested early cold → Told q layout contested early cold
+  told-too = told-alike (same-function same) (same-edge same) refl
 
   bound-too : {b : Bound} → BoundIs p layout b → BoundIs q layout b
   bound-too {b} is =
       record {
         contested = is .contested;
+        early = is .early;
         cold = is .cold;
         told = told-too (is .told);
         need-is = is .need-is ∙ same-need same layout;
         contested-are = is .contested-are ∙ ap (λ (n : ℕ). howMany n (is .contested)) (same .«vertex_count»);
-        first-is = is .first-is ∙ same-first same (is .cold);
         greatest = is .greatest;
-        greatest-is = coe 0 1 (i. Greatest q (charges (same-charge same (is .contested) i)) (is .greatest)) (greatest-too same (is .greatest-is));
-        bound-is = is .bound-is ∙ ap (λ (n : ℕ). is .greatest + n) (same-first same (is .cold));
+        greatest-is = greatest-too same (λ i. charges (same-charge same (is .contested) i)) (is .greatest-is);
+        bound-is = smaller-too same (same-total same (is .early) (is .contested)) (λ i. is .greatest + same-first same (is .cold) i) (is .bound-is);
+        first-is = is .first-is;
         within-limit = is .within-limit;
-        covers = λ h lawful. subst (λ (n : ℕ). n ≤ b .bound .0) (λ i. same-cycles (same-last same i ∷ h) i) (is .covers h (lawful-too (same-sym same) lawful));
+        covers = all-too same (λ i h. same-cycles h i ≤ b .bound .0) (is .covers);
       }
 
   past-too : PastTheLimit p layout → PastTheLimit q layout
   past-too is =
       record {
         contested = is .contested;
+        early = is .early;
         cold = is .cold;
         told = told-too (is .told);
-        past = is .past;
-        lawful = lawful-too same (is .lawful);
-        over = coe 0 1 (i. boundLimit < charges (same-charge same (is .contested) i) (same-last same i ∷ is .past) + same-first same (is .cold) i) (is .over);
+        over = some-too same (λ i h. boundLimit < charges (same-charge same (is .contested) i) h + same-first same (is .cold) i) (is .over);
+        second-over = some-too same (λ i h. boundLimit < same-total same (is .early) (is .contested) i h) (is .second-over);
       }
 
 sets-too : {p q : Problem} → SameProblem p q → {words after : List ℕ} {count : ℕ} → Sets p words after count → Sets q words after count
