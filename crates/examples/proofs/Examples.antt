@@ -1,4 +1,4 @@
--- The worked examples M1 to M10 hold, each in the words of the definitions: one computation tests the whole table.
+-- The worked examples hold, M1 to M10 and those of 3/14, each in the words of the definitions: one computation tests the whole table.
 use mathlib.Core.Path.{_≡_, refl}
 use mathlib.Core.Bool.{true}
 use mathlib.Core.List.{zipWith, flatMap, List·Memᴰ}
@@ -8,30 +8,31 @@ use Rattle.model.specs.Search.{lowestFrom}
 use Rattle.model.specs.Spelling.{readGroups, numberSize}
 use Rattle.model.specs.File.{afterCount, afterItem, nextField, belowCount, fromHeader, inRange, edgeBefore, ascends, itemStart, checkFrom, readFrom}
 use Rattle.model.specs.Graph.{lacks, badRange, wrongEdge, noReturn, graphRules}
-use Rattle.model.specs.Walks.{visits}
+use Rattle.model.specs.Walks.{visits, sum, entering, weights}
 use Rattle.model.specs.Costs.{total, largest}
 use Rattle.model.specs.Layouts.{lowestFree, filledIn, regionOf, largestIn, needOf, judgeLayout}
 use Rattle.model.specs.Interference.{since, occurs}
-use Rattle.model.specs.Charges.{visitCharge, firstLoads, charges}
+use Rattle.model.specs.Charges.{outside, outermost, visitCharge, firstLoads, secondCharge, holdsEarly, entryCharge, charges}
 use Rattle.model.specs.Runs.{held, cycles, loads}
 use Rattle.model.specs.Operations.{readFile, checkProblem}
 use Rattle.model.specs.Verdicts.{judgeProblem, judgeBound, mayFollow, pastBound, atLast, judgeWalk, judgeRun}
 use Rattle.model.specs.Decimals.{text, digitsOf, decimal}
 use Rattle.model.specs.Slips.{line, refusalLine, resultLines}
-use Rattle.sound.specs.Decide.{contestedTest}
+use Rattle.sound.specs.Decide.{contestedTest, earlyTest}
 use Rattle.examples.specs.Problems.{problem, padded}
 use Rattle.examples.specs.Claims.{Claim, Means}
 use Rattle.examples.specs.Marks.{marks}
-use Rattle.examples.specs.Tests.{any, all, someFrom, everyFrom, member, fresh, handsOn, settled, setIs, greatestIs, same, boundsAre, readsAs, passes}
+use Rattle.examples.specs.Tests.{any, all, someFrom, everyFrom, member, fresh, handsOn, settled, setIs, everyLawful, someLawful, greatestIs, smallerIs, same, boundsAre, readsAs, passes}
 use Rattle.examples.proofs.Passed.{all-at}
 use Rattle.examples.proofs.Means.{means}
 
 computed : all passes marks ≡ true
-unfolding marks problem padded zipWith flatMap boundsAre readsAs passes text decimal digitsOf line refusalLine resultLines any all someFrom everyFrom member fresh handsOn settled setIs greatestIs same limits bases kinds
-    jumps counts numbersOf lowestFrom readGroups numberSize afterCount afterItem nextField belowCount fromHeader inRange edgeBefore ascends itemStart
-    checkFrom readFrom lacks badRange wrongEdge noReturn graphRules visits total largest lowestFree filledIn regionOf largestIn needOf judgeLayout since occurs
-    visitCharge firstLoads charges held cycles loads readFile checkProblem judgeProblem judgeBound mayFollow pastBound atLast judgeWalk judgeRun
-    contestedTest
+unfolding marks problem padded zipWith flatMap boundsAre readsAs passes text decimal digitsOf line refusalLine resultLines any all someFrom everyFrom member
+    fresh handsOn settled setIs everyLawful someLawful greatestIs smallerIs same limits bases kinds jumps counts numbersOf lowestFrom readGroups numberSize
+    afterCount afterItem nextField belowCount fromHeader inRange edgeBefore ascends itemStart checkFrom readFrom lacks badRange wrongEdge noReturn
+    graphRules visits sum entering weights total largest lowestFree filledIn regionOf largestIn needOf judgeLayout since occurs outside outermost
+    visitCharge firstLoads secondCharge holdsEarly entryCharge charges held cycles loads readFile checkProblem judgeProblem judgeBound mayFollow pastBound
+    atLast judgeWalk judgeRun contestedTest earlyTest
 computed = refl
 
 pub examples : (c : Claim) → List·Memᴰ c marks → Means c

@@ -1,6 +1,6 @@
 pub mod Passed
 pub mod Search
-pub mod Greatest
+pub mod Lawful
 pub mod Tables
 pub mod Reading
 pub mod Means

@@ -1,5 +1,5 @@
 -- A claim that passes its test holds.
-use Prim.Native.Nat.{ℕ, _-_, _≤_, _<_}
+use Prim.Native.Nat.{ℕ, _+_, _-_, _<_}
 use Prim.Native.String.{String}
 use mathlib.Core.Path.{_≡_, refl, sym, ap, _∙_, subst}
 use mathlib.Core.List.{List, [], reverse, List·Memᴰ}
@@ -23,7 +23,7 @@ use Rattle.model.specs.Costs.{functionOf, howMany}
 use Rattle.model.specs.Walks.{EdgeOf}
 use Rattle.model.specs.Layouts.{needOf}
 use Rattle.model.specs.Interference.{Interferes}
-use Rattle.model.specs.Charges.{visitCharge, firstLoads, charges}
+use Rattle.model.specs.Charges.{visitCharge, firstLoads, secondTotal, charges}
 use Rattle.model.specs.Runs.{cycles, loads}
 use Rattle.model.specs.Operations.{readFile}
 use Rattle.model.specs.Verdicts.{judgeBound, judgeRun}
@@ -31,13 +31,12 @@ use Rattle.model.specs.Results.{boundLimit, runWalk}
 use Rattle.model.specs.Decimals.{text}
 use Rattle.model.specs.Slips.{refusalLine, slipBytes, BoundAfter, SlipIs}
 use Rattle.model.proofs.Cases.{and-left, and-right, true-not-false}
-use Rattle.sound.proofs.Sound.{cycles-covered}
 use Rattle.sound.proofs.Decide.{told}
-use Rattle.examples.specs.Claims.{Claim, sets, bounds, boundRefused, runs, runRefused, longestRun, reads, readRefused, prints, printsRefusal, RefusedAs, given, Means}
-use Rattle.examples.specs.Tests.{has, settled, ownMember, ownFresh, setIs, shared, contested, cold, accepted, verdictOf, refusedAs, boundsAre, readsAs, refusalIs, passes}
+use Rattle.examples.specs.Claims.{Claim, sets, bounds, secondTotals, boundRefused, runs, runRefused, longestRun, reads, readRefused, prints, printsRefusal, RefusedAs, given, Means}
+use Rattle.examples.specs.Tests.{has, settled, ownMember, ownFresh, setIs, shared, contested, early, cold, accepted, verdictOf, refusedAs, boundsAre, readsAs, refusalIs, passes}
 use Rattle.examples.proofs.Passed.{each, all-at, has-is, every-below}
-use Rattle.examples.proofs.Greatest.{greatest-is}
-use Rattle.examples.proofs.Tables.{member-below, member-is, walk-below, function-below, member-all, tables}
+use Rattle.examples.proofs.Lawful.{at-most, greatest-is, smaller-is}
+use Rattle.examples.proofs.Tables.{member-below, member-is, function-below, member-all, tables}
 use Rattle.examples.proofs.Reading.{same-is, read-accepts, read-refuses}
 use Rattle.model.specs.Places as places
 
@@ -74,31 +73,33 @@ bounds-mean : (p : Problem) (layout : List ℕ) (need tally first most : ℕ) �
     Means (bounds p layout need tally first most)
 unfolding boundsAre
 bounds-mean p layout need tally first most ok =
-    let (judged, (ready, (need-is, (tally-is, (first-is, (low, (limit, (most-is, _)))))))) = each _ ok in
-    let says = told p layout (shared p layout) (ownFresh p) (cold p layout) (tables p ready layout) in
-    let greatest = greatest-is p (charges (visitCharge p (contested p layout))) (most - first) most-is in
-    let firsts : first ≡ firstLoads p (cold p layout) = eqb-true first _ first-is in
-    let fits : first ≤ most = leb-true first most low in (
+    let (judged, (ready, (need-is, (tally-is, (low, (limit, (greatest, (smaller, (longest, _))))))))) = each _ ok in (
       accepted-is (judgeBound p layout) judged,
       record {
         contested = contested p layout;
+        early = early p layout;
         cold = cold p layout;
-        told = says;
+        told = told p layout (shared p layout) (ownFresh p) (cold p layout) (tables p ready layout);
         need-is = eqb-true need (needOf p layout) need-is;
         contested-are = eqb-true tally (howMany (p .«vertex_count») (contested p layout)) tally-is;
-        first-is = firsts;
         greatest = most - first;
-        greatest-is = greatest;
-        bound-is = omega arith;
+        greatest-is = greatest-is p (charges (visitCharge p (contested p layout))) (most - first) greatest;
+        bound-is = smaller-is p (most - first + firstLoads p (cold p layout)) (secondTotal p (contested p layout) (early p layout)) most smaller;
+        first-is = omega (arith, leb-true first most low);
         within-limit = leb-true most boundLimit limit;
-        covers =
-            λ h lawful.
-            omega (
-              arith,
-              greatest .above h lawful,
-              cycles-covered p layout (contested p layout) (cold p layout) says (λ v h walk. function-below p ready v (walk-below p ready walk)) (lawful .walk),
-            );
+        covers = at-most p (cycles p layout) most longest;
       },
+    )
+
+second-mean : (p : Problem) (layout : List ℕ) (most : ℕ) → passes (secondTotals p layout most) ≡ true → Means (secondTotals p layout most)
+unfolding passes
+second-mean p layout most ok =
+    let (ready, (is, _)) = each _ ok in (
+      contested p layout,
+      early p layout,
+      cold p layout,
+      told p layout (shared p layout) (ownFresh p) (cold p layout) (tables p ready layout),
+      greatest-is p (secondTotal p (contested p layout) (early p layout)) most is,
     )
 
 runs-mean : (p : Problem) (layout walk : List ℕ) (c n : ℕ) → passes (runs p layout walk c n) ≡ true → Means (runs p layout walk c n)
@@ -156,6 +157,7 @@ pub means : (c : Claim) → passes c ≡ true → Means c
 unfolding passes
 means (sets p lists) ok = sets-mean p lists ok
 means (bounds p layout need tally first most) ok = bounds-mean p layout need tally first most ok
+means (secondTotals p layout most) ok = second-mean p layout most ok
 means (boundRefused p layout n at) ok = refused-as n at (judgeBound p layout) _ (λ f e. inl e) ok
 means (runs p layout walk c n) ok = runs-mean p layout walk c n ok
 means (runRefused p layout walk n at) ok = refused-as n at (judgeRun p layout walk) _ (run-refuses p layout walk) ok

@@ -13,11 +13,11 @@ use Rattle.model.specs.Layouts.{regionOf}
 use Rattle.model.specs.Interference.{since, occurs, Interferes, Fresh, Contested}
 use Rattle.model.proofs.Cases.{and-left, and-right}
 use Rattle.model.proofs.Search.{some-below, exists-at}
-use Rattle.sound.specs.Decide.{EarlyVertex}
+use Rattle.sound.specs.Decide.{earlyTest}
 use Rattle.sound.proofs.Flow.{since-ne, complete, fresh-complete}
 use Rattle.sound.proofs.Tests.{and-both}
 use Rattle.sound.proofs.Decide.{Tables}
-use Rattle.examples.specs.Tests.{all, has, shown, member, fresh, handsOn, settled, ownMember, ownFresh, rival, shared, contested, early, cold}
+use Rattle.examples.specs.Tests.{all, has, shown, member, fresh, handsOn, settled, ownMember, ownFresh, rival, shared, early, earlyOf, cold}
 use Rattle.examples.proofs.Passed.{each, all-at, has-is, every-below}
 use Rattle.examples.proofs.Search.{Free, Found, found}
 
@@ -53,7 +53,7 @@ module _ (p : Problem) where
     unfolding settled
     some-vertex = ltb-true 0 (p .«vertex_count») (each _ ok .0)
 
-    pub walk-below : {v : ℕ} {h : List ℕ} → Walk (EdgeOf p) v h → v < p .«vertex_count»
+    walk-below : {v : ℕ} {h : List ℕ} → Walk (EdgeOf p) v h → v < p .«vertex_count»
     unfolding settled
     walk-below start = some-vertex
     walk-below (step {u} {v} walk edge) =
@@ -107,20 +107,20 @@ module _ (p : Problem) where
           exists-at (p .«function_count») (rival p layout v) g (member-below (functionOf p v) v g m)
           (and-both _ _ m (eq-eqb (regionOf layout g) (regionOf layout (functionOf p v)) e))
 
-      early-is : (f : ℕ) → cold p layout f ≡ true → EarlyVertex p (shared p layout) (ownFresh p) f
-      early-is f e =
-          let (v, l, x) = some-below (p .«vertex_count») (early p layout f) e in
-          let y = and-right (eqb (functionOf p v) f) _ x in (
+      cold-is : (f : ℕ) → cold p layout f ≡ true → (v : ℕ) × (functionOf p v ≡ f) × (early p layout v ≡ true)
+      cold-is f e =
+          let (v, l, x) = some-below (p .«vertex_count») (earlyOf p layout f) e in (
             v,
-            l,
             eqb-true (functionOf p v) f (and-left (eqb (functionOf p v) f) _ x),
-            not-true (contested p layout v) (and-left (not (contested p layout v)) _ y),
-            and-right (not (contested p layout v)) _ y,
+            and-right (eqb (functionOf p v) f) _ x,
           )
 
-      early-all : (f : ℕ) → EarlyVertex p (shared p layout) (ownFresh p) f → cold p layout f ≡ true
-      early-all f (v, l, of-f, free, reached) =
-          exists-at (p .«vertex_count») (early p layout f) v l (and-both _ _ (eq-eqb (functionOf p v) f of-f) (and-both (not (contested p layout v)) (ownFresh p v) (rw free) reached))
+      early-below : (v : ℕ) → early p layout v ≡ true → v < p .«vertex_count»
+      unfolding earlyTest
+      early-below v e = ltb-true v (p .«vertex_count») (and-left (ltb v (p .«vertex_count»)) _ e)
+
+      cold-all : (f v : ℕ) → functionOf p v ≡ f → early p layout v ≡ true → cold p layout f ≡ true
+      cold-all f v of-f e = exists-at (p .«vertex_count») (earlyOf p layout f) v (early-below v e) (and-both _ _ (eq-eqb (functionOf p v) f of-f) e)
 
       pub tables : Tables p layout (shared p layout) (ownFresh p) (cold p layout)
       tables =
@@ -128,5 +128,5 @@ module _ (p : Problem) where
             vertex = λ v h walk. walk-below walk;
             contested = λ v l. (shared-is v, shared-all v l);
             reached = λ v l. (fresh-is (functionOf p v) v, fresh-all (functionOf p v) (function-below v l) v);
-            early = λ f. (early-is f, early-all f);
+            coldest = λ f. (cold-is f, (λ (v, of-f, e). cold-all f v of-f e));
           }

@@ -1,8 +1,9 @@
--- The kinds of statement that document 01 makes of its worked examples, and what each says in the words of the definitions.
+-- The kinds of statement that the documents make of their worked examples, and what each says in the words of the definitions.
 use Prim.Native.Nat.{ℕ, _<_}
 use Prim.Native.String.{String}
 use mathlib.Core.Path.{_≡_}
 use mathlib.Core.List.{List, [], List·Memᴰ}
+use mathlib.Core.Bool.{Bool}
 use mathlib.Core.Logic.{_↔_}
 use lib.ListN.{getD}
 use Rattle.model.specs.declared.Refusal.{Refusal}
@@ -16,6 +17,7 @@ use Rattle.model.specs.Zero.{bytes, cycles as cyclesOf}
 use Rattle.model.specs.Costs.{functionOf}
 use Rattle.model.specs.Walks.{EdgeOf, Greatest}
 use Rattle.model.specs.Interference.{Interferes}
+use Rattle.model.specs.Charges.{Told, secondTotal}
 use Rattle.model.specs.Runs.{cycles}
 use Rattle.model.specs.Operations.{readFile}
 use Rattle.model.specs.Results.{BoundSays, runWalk}
@@ -27,7 +29,9 @@ pub data Claim : Type 0 where
   sets : Problem → List (List ℕ) → Claim
   -- A problem under a layout: bytes needed, contested vertices, first loads, bound.
   bounds : Problem → List ℕ → ℕ → ℕ → ℕ → ℕ → Claim
-  -- The same, refused: the refusal's number and place.
+  -- The greatest second total.
+  secondTotals : Problem → List ℕ → ℕ → Claim
+  -- Bound's refusal: its number and place.
   boundRefused : Problem → List ℕ → ℕ → ℕ → Claim
   -- A problem, a layout and a walk: cycles and loads.
   runs : Problem → List ℕ → List ℕ → ℕ → ℕ → Claim
@@ -53,6 +57,8 @@ abbrev pub Means : Claim → Type 0
 Means (sets p each) =
     (v : ℕ) → v < p .«vertex_count» → (g : ℕ) → Interferes (functionOf p) (EdgeOf p) v (functionOf p v) g ↔ List·Memᴰ g (getD each v [])
 Means (bounds p layout need contested first most) = BoundSays p layout (bound.Bounded (given need contested first most))
+Means (secondTotals p layout most) =
+    (contested : ℕ → Bool) × (early : ℕ → Bool) × (cold : ℕ → Bool) × Told p layout contested early cold × Greatest p (secondTotal p contested early) most
 Means (boundRefused p layout n at) = RefusedAs n at (λ f. BoundSays p layout (bound.Refused f))
 Means (runs p layout walk c n) = runWalk p layout walk ≡ run.Ran (record { cycles = cyclesOf c; loads = n })
 Means (runRefused p layout walk n at) = RefusedAs n at (λ f. runWalk p layout walk ≡ run.Refused f)

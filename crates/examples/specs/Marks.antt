@@ -1,9 +1,9 @@
 -- The worked examples M1 to M10 of document 01, in its order; each comment has its words. Where it gives some of Bound's four numbers (bytes needed,
--- contested vertices, first loads, bound), or a run without its loads, the others stand here too.
+-- contested vertices, first loads, bound), or a run without its loads, the others stand here too. Then two of request 3/14, one for each total.
 use Prim.Native.Nat.{ℕ}
 use mathlib.Core.List.{List, [], _∷_}
-use Rattle.examples.specs.Problems.{P, Q, R, single}
-use Rattle.examples.specs.Claims.{Claim, sets, bounds, boundRefused, runs, runRefused, longestRun, reads, readRefused, prints, printsRefusal}
+use Rattle.examples.specs.Problems.{P, Q, R, single, oneOfTwo, metTwice}
+use Rattle.examples.specs.Claims.{Claim, sets, bounds, secondTotals, boundRefused, runs, runRefused, longestRun, reads, readRefused, prints, printsRefusal}
 
 -- P's only walk.
 abbrev chain : List ℕ
@@ -47,4 +47,11 @@ marks =
     ∷ prints whole single [] 8 0 5 15 "need 8\ncharged 0\nfirst 5\nbound 15\n"
     ∷ readRefused [] 1 0
     ∷ printsRefusal [] "refused 1 at 0\n"
+    -- 3/14, each function in its own region: the second total, 12, is smaller than document 01's, 15, and a run takes it.
+    ∷ bounds oneOfTwo (0 ∷ 1 ∷ 2 ∷ []) 3 0 9 12
+    ∷ secondTotals oneOfTwo (0 ∷ 1 ∷ 2 ∷ []) 12
+    ∷ longestRun oneOfTwo (0 ∷ 1 ∷ 2 ∷ []) 12
+    -- 3/14: document 01's total, 15, is smaller than the second, 18, and so it is still needed.
+    ∷ bounds metTwice (0 ∷ 1 ∷ []) 2 0 8 15
+    ∷ secondTotals metTwice (0 ∷ 1 ∷ []) 18
     ∷ []

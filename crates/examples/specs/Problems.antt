@@ -1,4 +1,4 @@
--- The problems of the worked examples, in document 01's words: P, Q, R, and the one whose file is M10.
+-- The problems of the worked examples: in document 01's words P, Q, R, and the one whose file is M10; and two of request 3/14.
 use Prim.Native.Nat.{ℕ, _-_}
 use mathlib.Core.List.{List, [], _∷_, _++_, zipWith}
 use lib.ListN.{length, replicate}
@@ -89,4 +89,30 @@ single =
       costs = 10 ∷ [];
       edges = [];
       loops = [];
+    })
+
+-- Q's graph with a helper of its own on each branch: a walk calls one of the two, so it loads one of them.
+abbrev pub oneOfTwo : Problem
+oneOfTwo =
+    problem 3
+    (record {
+      sizes = 1 ∷ 1 ∷ 1 ∷ [];
+      loads = 5 ∷ 3 ∷ 4 ∷ [];
+      functions = 0 ∷ 1 ∷ 2 ∷ 0 ∷ [];
+      costs = 1 ∷ 1 ∷ 1 ∷ 1 ∷ [];
+      edges = edge 0 1 ∷ edge 0 2 ∷ edge 1 3 ∷ edge 2 3 ∷ [];
+      loops = [];
+    })
+
+-- Function 1 may be met first before the loop, at vertex 1, or in it, at vertex 3: the second total charges its load at both.
+abbrev pub metTwice : Problem
+metTwice =
+    problem 2
+    (record {
+      sizes = 1 ∷ 1 ∷ [];
+      loads = 5 ∷ 3 ∷ [];
+      functions = 0 ∷ 1 ∷ 0 ∷ 1 ∷ 0 ∷ [];
+      costs = 1 ∷ 1 ∷ 1 ∷ 1 ∷ 1 ∷ [];
+      edges = edge 0 1 ∷ edge 0 2 ∷ edge 1 2 ∷ edge 2 3 ∷ edge 3 2 ∷ edge 3 4 ∷ [];
+      loops = loop 2 3 2 ∷ [];
     })

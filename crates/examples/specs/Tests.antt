@@ -1,6 +1,6 @@
 -- A test of each claim that can be computed. Nobody has to believe it: `means` of proofs/ shows that a claim which passes holds. Walks are searched
 -- one by one, which is meant for problems as small as these.
-use Prim.Native.Nat.{ℕ, zero, suc, _-_}
+use Prim.Native.Nat.{ℕ, zero, suc, _+_, _-_}
 use mathlib.Core.List.{List, [], _∷_, reverse}
 use mathlib.Core.Bool.{Bool, true, false, cond, not, _&&_, _||_}
 use lib.ListN.{length, getD}
@@ -22,15 +22,15 @@ use Rattle.model.specs.Walks.{lastVertex}
 use Rattle.model.specs.Costs.{functionOf, howMany}
 use Rattle.model.specs.Layouts.{regionOf, needOf}
 use Rattle.model.specs.Interference.{since, occurs}
-use Rattle.model.specs.Charges.{visitCharge, firstLoads, charges}
+use Rattle.model.specs.Charges.{visitCharge, firstLoads, secondTotal, charges}
 use Rattle.model.specs.Runs.{cycles, loads}
 use Rattle.model.specs.Operations.{readFile}
 use Rattle.model.specs.Verdicts.{judgeBound, judgeRun, pastBound}
 use Rattle.model.specs.Results.{boundLimit}
 use Rattle.model.specs.Decimals.{text}
 use Rattle.model.specs.Slips.{refusalLine, resultLines}
-use Rattle.sound.specs.Decide.{contestedTest}
-use Rattle.examples.specs.Claims.{Claim, sets, bounds, boundRefused, runs, runRefused, longestRun, reads, readRefused, prints, printsRefusal, given}
+use Rattle.sound.specs.Decide.{contestedTest, earlyTest}
+use Rattle.examples.specs.Claims.{Claim, sets, bounds, secondTotals, boundRefused, runs, runRefused, longestRun, reads, readRefused, prints, printsRefusal, given}
 use Rattle.model.specs.Places as places
 
 module _ {A : Type 0} (test : A → Bool) where
@@ -72,7 +72,7 @@ module _ (p : Problem) (stop : List ℕ → ℕ → Bool) (test : ℕ → List �
 abbrev pub steps : ℕ
 steps = 100
 
--- Interference sets and first reach, and the greatest value over all lawful walks.
+-- Interference sets and first reach, and what lawful walks pass.
 module _ (p : Problem) where
   -- Some walk, of at most as many steps as there are vertices, passes the test.
   abbrev pub shown : (ℕ → List ℕ → Bool) → Bool
@@ -115,13 +115,27 @@ module _ (p : Problem) where
   setIs xs v =
       passed (all (ownMember v) xs ∷ everyBelow (p .«function_count») (λ g. cond (ownMember v g) (has xs g) true) ∷ [])
 
+  -- Every lawful walk passes the test.
+  abbrev pub ifLast : (List ℕ → Bool) → ℕ → List ℕ → Bool
+  ifLast test v h = cond (eqb v (lastVertex p)) (test (v ∷ h)) true
+
+  unfoldable pub everyLawful : (List ℕ → Bool) → Bool
+  everyLawful test = everyFrom p (pastBound p) (ifLast test) steps 0 []
+
+  -- Some lawful walk passes it.
+  abbrev pub lastAnd : (List ℕ → Bool) → ℕ → List ℕ → Bool
+  lastAnd test v h = eqb v (lastVertex p) && test (v ∷ h)
+
+  unfoldable pub someLawful : (List ℕ → Bool) → Bool
+  someLawful test = not (pastBound p [] 0) && someFrom p (pastBound p) (lastAnd test) steps 0 []
+
   -- No lawful walk has more than m, and one has m.
   unfoldable pub greatestIs : (List ℕ → ℕ) → ℕ → Bool
-  greatestIs f m =
-      passed
-      (not (pastBound p [] 0)
-      ∷ everyFrom p (pastBound p) (λ v h. cond (eqb v (lastVertex p)) (leb (f (v ∷ h)) m) true) steps 0 []
-      ∷ someFrom p (pastBound p) (λ v h. eqb v (lastVertex p) && eqb (f (v ∷ h)) m) steps 0 [] ∷ [])
+  greatestIs f m = passed (everyLawful (λ h. leb (f h) m) ∷ someLawful (λ h. eqb (f h) m) ∷ [])
+
+  -- b is x or f's greatest, and neither is smaller.
+  unfoldable pub smallerIs : ℕ → (List ℕ → ℕ) → ℕ → Bool
+  smallerIs x f b = passed (leb b x ∷ someLawful (λ h. leb b (f h)) ∷ (eqb b x || everyLawful (λ h. leb (f h) b)) ∷ [])
 
   module _ (layout : List ℕ) where
     -- The set of v has g, which is in the region of v's function.
@@ -134,12 +148,14 @@ module _ (p : Problem) where
     abbrev pub contested : ℕ → Bool
     contested = contestedTest p shared
 
-    -- v is of f, uncontested, and reached with no earlier vertex of f.
-    abbrev pub early : ℕ → ℕ → Bool
-    early f v = eqb (functionOf p v) f && (not (contested v) && ownFresh v)
+    abbrev pub early : ℕ → Bool
+    early = earlyTest p shared ownFresh
+
+    abbrev pub earlyOf : ℕ → ℕ → Bool
+    earlyOf f v = eqb (functionOf p v) f && early v
 
     abbrev pub cold : ℕ → Bool
-    cold f = existsBelow (p .«vertex_count») (early f)
+    cold f = existsBelow (p .«vertex_count») (earlyOf f)
 
 abbrev pub accepted : Verdict → Bool
 accepted verdict.Accepted = true
@@ -174,10 +190,11 @@ boundsAre p layout need tally first most =
     ∷ settled p
     ∷ eqb need (needOf p layout)
     ∷ eqb tally (howMany (p .«vertex_count») (contested p layout))
-    ∷ eqb first (firstLoads p (cold p layout))
     ∷ leb first most
     ∷ leb most boundLimit
-    ∷ greatestIs p (charges (visitCharge p (contested p layout))) (most - first) ∷ [])
+    ∷ greatestIs p (charges (visitCharge p (contested p layout))) (most - first)
+    ∷ smallerIs p (most - first + firstLoads p (cold p layout)) (secondTotal p (contested p layout) (early p layout)) most
+    ∷ everyLawful p (λ h. leb (cycles p layout h) most) ∷ [])
 
 -- The file holds this problem.
 unfoldable pub readsAs : List ℕ → Problem → Bool
@@ -196,6 +213,7 @@ refusalIs slip (verdict.Refused f) = same slip (refusalLine f)
 unfoldable pub passes : Claim → Bool
 passes (sets p each) = passed (settled p ∷ everyBelow (p .«vertex_count») (λ v. setIs p (getD each v []) v) ∷ [])
 passes (bounds p layout need tally first most) = boundsAre p layout need tally first most
+passes (secondTotals p layout most) = passed (settled p ∷ greatestIs p (secondTotal p (contested p layout) (early p layout)) most ∷ [])
 passes (boundRefused p layout n at) = refusedAs n at (judgeBound p layout)
 passes (runs p layout walk c n) =
     passed

@@ -1,4 +1,4 @@
-// The worked problems P, Q and R of document 01, and S, where splitting a region raises the bound: each from its numbers in file order.
+// The worked problems P, Q and R of document 01, two of request 3/14, and S, where splitting a region raises the bound: each from its numbers in file order.
 use model::Numbers;
 use model::Problem;
 use model::places;
@@ -8,7 +8,7 @@ ghost use lib.ListN.{length};
 ghost use lib.Seq.{sets};
 ghost use Rattle.model.specs.Places as spot;
 ghost use Rattle.model.specs.Numbers.{problemOf};
-ghost use Rattle.examples.specs.Problems.{P, Q, R};
+ghost use Rattle.examples.specs.Problems.{P, Q, R, oneOfTwo, metTwice};
 ghost use Rattle.samples.specs.Listed.{Fits, listed};
 
 // The numbers of a part, stored from a place on.
@@ -24,7 +24,7 @@ fn put(l: &mut Numbers, at: usize, part: &[u64])
 }
 
 // A problem from its lists: of each its count, and then its items' numbers.
-fn problem(
+pub fn problem(
     scratchpad: u64,
     functions: &[u64],
     vertices: &[u64],
@@ -74,6 +74,26 @@ pub fn r(bound: u64) -> Problem
     let edges = [4u64, 0, 1, 1, 2, 1, 3, 2, 1];
     let loops = [1u64, 1, 2, bound];
     problem(2, &functions, &vertices, &edges, &loops)
+}
+
+// 3/14's program that calls one of two helpers: Q's edges; three functions of size 1 and load costs 5, 3, 4; vertices of functions 0 1 2 0, each cost 1.
+pub fn one_of_two() -> Problem
+    ensures { λ result. ⌜ result ≡ oneOfTwo ⌝ }
+{
+    let functions = [3u64, 1, 5, 1, 3, 1, 4];
+    let vertices = [4u64, 0, 1, 1, 1, 2, 1, 0, 1];
+    let edges = [4u64, 0, 1, 0, 2, 1, 3, 2, 3];
+    problem(3, &functions, &vertices, &edges, &[0])
+}
+
+// 3/14's program that may meet function 1 first before a loop or in it: Q's functions; vertices of functions 0 1 0 1 0, each cost 1; one loop, 2 to 3.
+pub fn met_twice() -> Problem
+    ensures { λ result. ⌜ result ≡ metTwice ⌝ }
+{
+    let functions = [2u64, 1, 5, 1, 3];
+    let vertices = [5u64, 0, 1, 1, 1, 0, 1, 1, 1, 0, 1];
+    let edges = [6u64, 0, 1, 0, 2, 1, 2, 2, 3, 3, 2, 3, 4];
+    problem(2, &functions, &vertices, &edges, &[1, 2, 3, 2])
 }
 
 // S: splitting a region raises the bound. With functions 0 and 1 in one region, vertex 1 is contested and costs its load on the short branch alone; with a
