@@ -38,7 +38,8 @@
  *    11  LayoutTooLong       longer than the list of functions                place: the number of functions
  *    12  UnknownRegion       a region above 31                                place: the lowest function
  *    13  ScratchpadTooSmall  it needs more than the scratchpad                place: bytes needed
- *    14  BoundTooLarge       the bound passes EXAMINER_MOST_BOUND             place: 0
+ *    14  BoundTooLarge       the bound passes EXAMINER_MOST_BOUND, so both
+ *                            totals do                                        place: 0
  *   in the walk
  *    15  WrongStep           not vertex 0 at position 0, no edge from the
  *                            entry before, an unknown vertex, or the end is
@@ -127,12 +128,15 @@ uint32_t examiner_interference(const uint8_t *file, size_t file_length, uint32_t
  * list: each function beyond its end gets, in turn, the lowest region that no earlier function has.
  *
  * A vertex is contested if the interference set of it and its function has a function in its function's region. Its visit charge is
- * its own cost, plus the function's load cost if contested. A function is cold if one of its uncontested vertices can be reached by a
- * walk with no earlier vertex of that function. The first loads are the load cost of each cold function once. The bound is the largest
- * sum of visit charges over all lawful walks, plus the first loads. No lawful walk runs longer.
+ * its own cost, plus the function's load cost if contested. It is early if it is uncontested and some walk reaches it with no earlier
+ * vertex of its function. The bound is the smaller of two totals, and no lawful walk runs longer:
+ *   - the largest sum of visit charges over all lawful walks, plus once the load cost of each function that has an early vertex;
+ *   - the largest sum over all lawful walks of the visit charges, of the load cost too at each visit to an early vertex that no loop
+ *     holds, and, at each entry of an outermost loop, of the load cost, once each, of every function of which the loop holds an early
+ *     vertex.
  *
- * On 0: answer[0] the bytes needed, answer[1] the number of contested vertices, answer[2] the sum of first loads, answer[3] the bound;
- * costs are in cycles.
+ * On 0: answer[0] the bytes needed, answer[1] the number of contested vertices, answer[2] the bound less the largest sum of visit
+ * charges, which is what first loads take, answer[3] the bound; costs are in cycles.
  * Refusals: those of examiner_read, then 11, 12, 13, 14.
  */
 uint32_t examiner_bound(const uint8_t *file, size_t file_length, const uint8_t *layout, size_t layout_length, uint64_t *answer);

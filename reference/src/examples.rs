@@ -1,4 +1,4 @@
-//! The worked examples of document 01, one more, and those of drawings.
+//! The worked examples of document 01, one more, those of the two totals, and those of drawings.
 
 use crate::drawing::*;
 use crate::file::encode;
@@ -38,6 +38,34 @@ pub fn r() -> Problem {
 pub fn s() -> Problem {
     let vertices = [(0, 10), (1, 1), (2, 100), (2, 10)];
     problem(3, &[(1, 5), (1, 3), (1, 4)], &vertices, &[(0, 1), (0, 2), (1, 3), (2, 3)], &[])
+}
+
+/// A problem of functions of one byte each with room for all, whose vertices have the cost 1.
+fn of_unit_costs(loads: &[u32], functions: &[u32], edges: &[(u32, u32)], loops: &[(u32, u32, u32)]) -> Problem {
+    let sizes_and_loads: Vec<_> = loads.iter().map(|&load| (1, load)).collect();
+    let vertices: Vec<_> = functions.iter().map(|&function| (function, 1)).collect();
+    problem(loads.len() as u32, &sizes_and_loads, &vertices, edges, loops)
+}
+
+/// T, where the second total is the smaller: the graph of Q with another helper on each branch.
+pub fn t() -> Problem {
+    of_unit_costs(&[5, 3, 4], &[0, 1, 2, 0], &[(0, 1), (0, 2), (1, 3), (2, 3)], &[])
+}
+
+/// U, where document 01's total is the smaller: function 1 is early before the loop and in it.
+pub fn u() -> Problem {
+    of_unit_costs(&[5, 3], &[0, 1, 0, 1, 0], &[(0, 1), (0, 2), (1, 2), (2, 3), (3, 2), (3, 4)], &[(2, 3, 2)])
+}
+
+/// V: vertex 0 is a header, so every walk starts by entering its loop.
+pub fn v() -> Problem {
+    of_unit_costs(&[5], &[0, 0], &[(0, 0), (0, 1)], &[(0, 0, 2)])
+}
+
+/// W: two functions are early in a loop, one of them in a loop inside it.
+pub fn w() -> Problem {
+    let edges = [(0, 1), (1, 2), (1, 4), (2, 2), (2, 3), (3, 1)];
+    of_unit_costs(&[5, 3, 4], &[0, 0, 1, 2, 0], &edges, &[(1, 3, 2), (2, 2, 3)])
 }
 
 /// A drawing of functions of one byte each, with the load costs 5, 3 and 4 and as much room as they need.

@@ -7,7 +7,7 @@
 //! - Interference is a flow along the edges, in sweeps over the vertices whose rows have grown since they were last passed on.
 //! - Bound needs no interference table. A vertex is contested exactly if some walk arrives at it with another function as the latest
 //!   one visited in the region of its own: one word a vertex says which functions may be the latest of their region, and one which
-//!   may not have been visited yet.
+//!   may not have been visited yet. These also say which vertices are early, and both totals come of one pass over the vertices.
 //! - Run looks each step up in a table of all pairs of vertices, and counts visits to every vertex as if it were a header.
 //! - Inline is in a file of its own.
 
@@ -398,47 +398,97 @@ pub fn bound(file: &[u8], layout: &[u8]) -> Result<Bound, Refusal> {
     }
 
     let mut contested = 0;
-    let mut cold = 0u32;
-    let mut charge = [0u64; MOST_VERTICES];
-    for vertex in 0..flat.vertices {
+    let mut early = Early::default();
+    let mut charge = [[0u64; 2]; MOST_VERTICES];
+    for (vertex, charge) in charge.iter_mut().enumerate().take(flat.vertices) {
         let function = usize::from(flat.function[vertex]) % MOST_FUNCTIONS;
-        let is_contested = arriving[vertex] as u32 & rivals[function] != 0;
-        charge[vertex] = u64::from(flat.cost[vertex]);
-        if is_contested {
+        let (cost, load) = (u64::from(flat.cost[vertex]), u64::from(flat.load[function]));
+        *charge = [cost; 2];
+        if arriving[vertex] as u32 & rivals[function] != 0 {
             contested += 1;
-            charge[vertex] += u64::from(flat.load[function]);
-        } else {
-            cold |= (arriving[vertex] >> 32) as u32 & 1 << function;
+            *charge = [cost + load; 2];
+        } else if arriving[vertex] >> (32 + function) & 1 == 1 {
+            early.note(function, flat.around[vertex]);
+            charge[1] += if flat.around[vertex] == 0 { load } else { 0 };
         }
     }
-    let first_loads = (0..flat.functions).filter(|&f| cold >> f & 1 == 1).map(|f| u64::from(flat.load[f])).sum();
-    let bound = greatest(&flat, &charge) + first_loads;
+    let [visits, second] = greatest(&flat, &charge, &early.entries(&flat));
+    let bound = (visits + loads_of(&flat, early.anywhere)).min(second);
     if bound > MOST_BOUND {
         return Err(Refusal::at(14, 0));
     }
-    Ok(Bound { need, contested, first_loads, bound })
+    Ok(Bound { need, contested, first_loads: bound - visits, bound })
 }
 
-/// The greatest sum of visit charges, or some number above the limit where it passes that.
-fn greatest(flat: &Flat, charge: &[u64; MOST_VERTICES]) -> u64 {
-    const CAP: u64 = MOST_BOUND + 1;
+/// The functions that have early vertices.
+#[derive(Default)]
+struct Early {
+    anywhere: u32,
+    /// In the range of each outermost loop.
+    held: [u32; MOST_LOOPS],
+}
+
+impl Early {
+    /// Notes an early vertex of a function with these loops around it, of which the outermost is the lowest.
+    #[inline(always)]
+    fn note(&mut self, function: usize, around: u32) {
+        self.anywhere |= 1 << function;
+        if around != 0 {
+            self.held[around.trailing_zeros() as usize] |= 1 << function;
+        }
+    }
+
+    /// What an entry of each loop is charged in the second total.
+    fn entries(&self, flat: &Flat) -> [u64; MOST_LOOPS] {
+        let mut entry = [0; MOST_LOOPS];
+        for (entry, &functions) in entry.iter_mut().zip(&self.held).take(flat.loops) {
+            *entry = loads_of(flat, functions);
+        }
+        entry
+    }
+}
+
+/// The load costs of these functions, each once.
+fn loads_of(flat: &Flat, functions: u32) -> u64 {
+    let mut sum = 0;
+    let mut rest = functions;
+    while rest != 0 {
+        sum += u64::from(flat.load[rest.trailing_zeros() as usize]);
+        rest &= rest - 1;
+    }
+    sum
+}
+
+/// Two sums, each kept up to some number above the limit.
+type Sums = [u64; 2];
+
+const CAP: u64 = MOST_BOUND + 1;
+
+#[inline(always)]
+fn add(one: Sums, other: Sums) -> Sums {
+    [(one[0] + other[0]).min(CAP), (one[1] + other[1]).min(CAP)]
+}
+
+/// The greatest sums of two kinds of charges at once, or some number above the limit where one passes that. The second kind is charged at
+/// entries of loops too.
+fn greatest(flat: &Flat, charge: &[Sums; MOST_VERTICES], entry: &[u64; MOST_LOOPS]) -> Sums {
     let (starts, origins) = edges_in(flat);
     let origins_of = |vertex: usize| &origins[usize::from(starts[vertex])..usize::from(starts[vertex + 1])];
-    // the greatest sum at each vertex since the present iteration of the innermost loop around it began, or since the start
-    let mut sum = [0u64; MOST_VERTICES];
-    // what leaving a loop adds: the sum on entering it, and all iterations but the last
-    let mut left = [0u64; MOST_LOOPS];
-    // the greatest sum with which these edges arrive at a vertex; every loop that they leave is closed
-    let arriving = |origins: &[u8], vertex: usize, sum: &[u64; MOST_VERTICES], left: &[u64; MOST_LOOPS]| {
-        let mut best = 0;
+    // the greatest sums at each vertex since the present iteration of the innermost loop around it began, or since the start
+    let mut sum = [[0u64; 2]; MOST_VERTICES];
+    // what leaving a loop adds: the sums on entering it, and all iterations but the last
+    let mut left = [[0u64; 2]; MOST_LOOPS];
+    // the greatest sums with which these edges arrive at a vertex; every loop that they leave is closed
+    let arriving = |origins: &[u8], vertex: usize, sum: &[Sums; MOST_VERTICES], left: &[Sums; MOST_LOOPS]| {
+        let mut best = [0; 2];
         for &from in origins {
             let mut total = sum[usize::from(from) % MOST_VERTICES];
             let mut leaving = flat.around[usize::from(from) % MOST_VERTICES] & !flat.around[vertex];
             while leaving != 0 {
-                total = (total + left[leaving.trailing_zeros() as usize]).min(CAP);
+                total = add(total, left[leaving.trailing_zeros() as usize]);
                 leaving &= leaving - 1;
             }
-            best = best.max(total);
+            best = [best[0].max(total[0]), best[1].max(total[1])];
         }
         best
     };
@@ -451,12 +501,12 @@ fn greatest(flat: &Flat, charge: &[u64; MOST_VERTICES]) -> u64 {
         let mut best = arriving(&origins[..lower], vertex, &sum, &left);
         if flat.headed[vertex] != 0 {
             let index = flat.headed[vertex].trailing_zeros() as usize;
-            left[index] = best;
+            left[index] = add(best, [0, entry[index]]);
             open[depth] = index as u8;
             depth += 1;
-            best = 0;
+            best = [0; 2];
         }
-        sum[vertex] = (best + charge[vertex]).min(CAP);
+        sum[vertex] = add(best, charge[vertex]);
         while depth > 0 {
             let index = usize::from(open[depth - 1]);
             let (header, last, bound) = flat.looped[index];
@@ -468,8 +518,8 @@ fn greatest(flat: &Flat, charge: &[u64; MOST_VERTICES]) -> u64 {
             let origins = origins_of(header);
             let lower = origins.iter().take_while(|&&from| usize::from(from) < header).count();
             let iteration = arriving(&origins[lower..], header, &sum, &left);
-            let earlier = (u128::from(iteration) * u128::from(bound - 1)).min(u128::from(CAP)) as u64;
-            left[index] = (left[index] + earlier).min(CAP);
+            let earlier = |length: u64| (u128::from(length) * u128::from(bound - 1)).min(u128::from(CAP)) as u64;
+            left[index] = add(left[index], iteration.map(earlier));
         }
     }
     sum[flat.vertices - 1]

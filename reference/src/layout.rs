@@ -1,8 +1,8 @@
-//! Layouts, contested vertices, cold functions and the bound: refusals 11 to 14.
+//! Layouts, contested vertices and the bound: refusals 11 to 14.
 
 use crate::interference::by_search;
-use crate::longest::by_contraction;
 use crate::problem::*;
+use crate::totals::Totals;
 
 /// What Bound gives.
 #[derive(Clone, Copy, Debug, PartialEq, Eq)]
@@ -11,9 +11,9 @@ pub struct Bound {
     pub need: u64,
     /// The number of contested vertices.
     pub contested: u64,
-    /// The sum of the first loads, in cycles.
+    /// The bound less the greatest visit charges, in cycles.
     pub first_loads: u64,
-    /// The bound, in cycles.
+    /// The bound, in cycles: the smaller of the two totals.
     pub bound: u64,
 }
 
@@ -70,57 +70,15 @@ pub fn contested(problem: &Problem, sets: &[u32], regions: &[u8]) -> Vec<bool> {
     problem.vertices.iter().enumerate().map(is_contested).collect()
 }
 
-/// The visit charge of each vertex: its own cost, plus its function's load cost if it is contested.
-pub fn visit_charges(problem: &Problem, contested: &[bool]) -> Vec<u64> {
-    let charge = |(vertex, &contested): (&Vertex, &bool)| {
-        let load = if contested { problem.functions[vertex.function as usize].load } else { 0 };
-        u64::from(vertex.cost) + u64::from(load)
-    };
-    problem.vertices.iter().zip(contested).map(charge).collect()
-}
-
-/// Whether each function is cold: whether one of its uncontested vertices can be reached by a walk with no earlier vertex of
-/// the function.
-pub fn cold(problem: &Problem, contested: &[bool]) -> Vec<bool> {
-    let successors = problem.successors();
-    let is_cold = |function: u32| {
-        let mut seen = vec![false; problem.vertices.len()];
-        let mut open = vec![0u32];
-        seen[0] = true;
-        while let Some(vertex) = open.pop() {
-            if problem.function_of(vertex) == function {
-                // a walk that goes on from here has an earlier vertex of the function
-                if !contested[vertex as usize] {
-                    return true;
-                }
-                continue;
-            }
-            for &next in &successors[vertex as usize] {
-                if !std::mem::replace(&mut seen[next as usize], true) {
-                    open.push(next);
-                }
-            }
-        }
-        false
-    };
-    (0..problem.functions.len() as u32).map(is_cold).collect()
-}
-
-/// The load cost of each cold function once.
-pub fn first_loads(problem: &Problem, cold: &[bool]) -> u64 {
-    problem.functions.iter().zip(cold).filter(|(_, &cold)| cold).map(|(f, _)| u64::from(f.load)).sum()
-}
-
-/// The bound for a layout that passed [`check`]; 14 where it passes the limit.
+/// The bound for a layout that passed [`check`]: the smaller of the two totals; 14 where it passes the limit.
 pub fn bound(problem: &Problem, regions: &[u8], need: u64) -> Result<Bound, Refusal> {
     let contested = contested(problem, &by_search(problem), regions);
-    let first_loads = first_loads(problem, &cold(problem, &contested));
-    let greatest = by_contraction(problem, &visit_charges(problem, &contested));
-    let bound = greatest.saturating_add(u128::from(first_loads));
-    match u64::try_from(bound) {
+    let totals = Totals::of(problem, &contested);
+    match u64::try_from(totals.smaller()) {
         Ok(bound) if bound <= MOST_BOUND => {
             let contested = contested.iter().filter(|&&c| c).count() as u64;
-            Ok(Bound { need, contested, first_loads, bound })
+            let visits = u64::try_from(totals.visits).expect("visit charges never pass a total");
+            Ok(Bound { need, contested, first_loads: bound - visits, bound })
         }
         _ => Err(Refusal::at(14, 0)),
     }

@@ -6,7 +6,8 @@
 //! | question | method used by the operations | checked against |
 //! |---|---|---|
 //! | interference | [`interference::by_search`]: a search backwards for each vertex and function | [`interference::by_states`]: a search over what walks have visited |
-//! | greatest visit charges | [`longest::by_contraction`]: loops become edges, the innermost first | [`longest::by_states`]: the graph unfolded by its visit counts; [`longest::lawful_walks`]: every lawful walk |
+//! | greatest charges of a walk | [`longest::by_contraction`]: loops become edges, the innermost first | [`longest::by_states`]: the graph unfolded by its visit counts; [`longest::lawful_walks`]: every lawful walk, charged by looking back |
+//! | early vertices | [`totals::early`]: a search for each function | [`totals::early_by_states`]: a search over what walks have visited |
 //! | the filled-in layout | [`layout::filled`]: the free regions are dealt out | [`layout::filled_in_turn`]: each function looks at all before it |
 //! | a run | [`run::simulate`]: one pass | [`run::simulate_by_looking_back`]: each visit looks at all before it |
 //! | one problem from a drawing | [`inline::recursively`]: each callee is inlined whole and moved | [`inline::by_splicing`]: one call at a time; [`stack::lawful_runs`]: every lawful run with a call stack |
@@ -27,11 +28,13 @@ pub mod longest;
 pub mod problem;
 pub mod run;
 pub mod stack;
+pub mod totals;
 
 pub use drawing::{Drawing, DrawnFunction, DrawnVertex, DRAWING};
 pub use layout::Bound;
 pub use problem::{Counts, Edge, Function, Loop, Problem, Refusal, Vertex, FIELDS};
 pub use run::Run;
+pub use totals::Totals;
 
 /// Read: the problem that a file holds.
 pub fn read(file: &[u8]) -> Result<Problem, Refusal> {

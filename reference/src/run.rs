@@ -116,8 +116,3 @@ pub fn simulate_by_looking_back(problem: &Problem, regions: &[u8], walk: &[u32])
     }
     Run { cycles: own + loading.iter().map(load_cost).sum::<u64>(), loads: loading.len() as u64, held: after }
 }
-
-/// The visit charges of a walk, a vertex once for each visit.
-pub fn charges(visit_charges: &[u64], walk: &[u32]) -> u128 {
-    walk.iter().map(|&v| u128::from(visit_charges[v as usize])).sum()
-}

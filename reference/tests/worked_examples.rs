@@ -1,9 +1,10 @@
-//! M1 to M10 of document 01, and layouts that leave functions off.
+//! M1 to M10 of document 01, layouts that leave functions off, and the two totals.
 
-use reference::examples::{p, q, r, s, M10};
-use reference::layout::{check, contested, visit_charges};
-use reference::longest::{by_contraction, by_states, lawful_walks};
-use reference::{bound, file, interference, read, run, write, Bound, Problem, Refusal};
+use reference::examples::{p, q, r, s, t, u, v, w, M10};
+use reference::layout::{check, contested};
+use reference::longest::{by_contraction, by_states, lawful_walks, Charges};
+use reference::totals::{early, early_by_states, first_charges, first_loads, second_charges};
+use reference::{bound, file, interference, read, run, write, Bound, Edge, Function, Loop, Problem, Refusal, Vertex};
 
 const CHAIN: [u32; 7] = [0, 1, 2, 3, 4, 5, 6];
 
@@ -31,17 +32,34 @@ fn longest_run(problem: &Problem, layout: &[u8]) -> u64 {
     greatest
 }
 
-/// The bound again, from the largest sum over all lawful walks, each walked.
-fn bound_by_all_walks(problem: &Problem, layout: &[u8]) -> u64 {
+/// The greatest charges over all lawful walks, each walked.
+fn greatest_of_all_walks(problem: &Problem, charges: &Charges) -> u64 {
+    let mut greatest = 0;
+    assert!(lawful_walks(problem, 100_000, &mut |walk| greatest = greatest.max(charges.of(problem, walk))));
+    assert_eq!(by_states(problem, charges, 100_000).expect("few states").0, greatest);
+    assert_eq!(by_contraction(problem, charges), greatest);
+    u64::try_from(greatest).expect("small")
+}
+
+/// What document 01 charges under a layout, its first loads, and what the second total charges.
+fn charges_of(problem: &Problem, layout: &[u8]) -> (Charges, u64, Charges) {
     let (regions, _) = check(problem, layout).expect("the layout fits");
     let contested = contested(problem, &interference::by_states(problem), &regions);
-    let charges = visit_charges(problem, &contested);
-    let mut greatest = 0;
-    assert!(lawful_walks(problem, 100_000, &mut |walk| greatest = greatest.max(reference::run::charges(&charges, walk))));
-    assert_eq!(by_states(problem, &charges, 100_000).expect("few states").0, greatest);
-    assert_eq!(by_contraction(problem, &charges), greatest);
-    let first_loads = reference::layout::first_loads(problem, &reference::layout::cold(problem, &contested));
-    u64::try_from(greatest).expect("small") + first_loads
+    let early = early(problem, &contested);
+    assert_eq!(early, early_by_states(problem, &contested));
+    (first_charges(problem, &contested), first_loads(problem, &early), second_charges(problem, &contested, &early))
+}
+
+/// The two totals again, document 01's and the second, from all lawful walks.
+fn totals_by_all_walks(problem: &Problem, layout: &[u8]) -> [u64; 2] {
+    let (first, first_loads, second) = charges_of(problem, layout);
+    [greatest_of_all_walks(problem, &first) + first_loads, greatest_of_all_walks(problem, &second)]
+}
+
+/// The bound again, from all lawful walks.
+fn bound_by_all_walks(problem: &Problem, layout: &[u8]) -> u64 {
+    let [first, second] = totals_by_all_walks(problem, layout);
+    first.min(second)
 }
 
 #[test]
@@ -177,6 +195,61 @@ fn s_with_functions_left_off() {
     assert_eq!(bound_by_all_walks(&s(), &[0, 0]), 129);
     assert_eq!(bound_of(&s(), &[]), Bound { need: 3, contested: 0, first_loads: 12, bound: 132 });
     assert_eq!(bound_by_all_walks(&s(), &[]), 132);
+}
+
+#[test]
+fn t_calls_one_of_two_helpers() {
+    assert_eq!(totals_by_all_walks(&t(), &[0, 1, 2]), [15, 12]);
+    assert_eq!(bound_of(&t(), &[0, 1, 2]), Bound { need: 3, contested: 0, first_loads: 9, bound: 12 });
+    assert_eq!(longest_run(&t(), &[0, 1, 2]), 12);
+}
+
+#[test]
+fn u_is_charged_twice_in_the_second_total() {
+    assert_eq!(totals_by_all_walks(&u(), &[0, 1]), [15, 18]);
+    assert_eq!(bound_of(&u(), &[0, 1]), Bound { need: 2, contested: 0, first_loads: 8, bound: 15 });
+    assert_eq!(longest_run(&u(), &[0, 1]), 15);
+}
+
+#[test]
+fn v_enters_a_loop_at_the_start() {
+    assert_eq!(totals_by_all_walks(&v(), &[0]), [8, 8]);
+    assert_eq!(bound_of(&v(), &[0]), Bound { need: 1, contested: 0, first_loads: 5, bound: 8 });
+    assert_eq!(longest_run(&v(), &[0]), 8);
+    let (_, _, second) = charges_of(&v(), &[0]);
+    assert_eq!(second.entry, [5]);
+    // below a run, were the entry at the start left out
+    assert_eq!(greatest_of_all_walks(&v(), &Charges::at_visits(&v(), second.visit)), 3);
+}
+
+#[test]
+fn w_is_charged_at_the_outer_loop_alone() {
+    let layout = [0, 1, 2];
+    assert_eq!(totals_by_all_walks(&w(), &layout), [20, 20]);
+    assert_eq!(bound_of(&w(), &layout), Bound { need: 3, contested: 0, first_loads: 12, bound: 20 });
+    assert_eq!(longest_run(&w(), &layout), 20);
+    let (_, _, second) = charges_of(&w(), &layout);
+    assert_eq!(second.entry, [7, 0]);
+    // an entry is charged on a walk that visits no early vertex of the loop
+    assert_eq!(second.of(&w(), &[0, 1, 4]), 3 + 5 + 7);
+    let inner_too = Charges { entry: vec![7, 3], ..second };
+    assert_eq!(greatest_of_all_walks(&w(), &inner_too), 23);
+}
+
+/// Function 1 is early in a loop that no walk leaves: cold, and in no lawful walk.
+#[test]
+fn a_loop_without_a_way_out_is_no_part_of_the_second_total() {
+    let edges = [(0, 1), (0, 2), (1, 1)].map(|(from, to)| Edge { from, to });
+    let problem = Problem {
+        scratchpad: 2,
+        functions: [5, 3].map(|load| Function { size: 1, load }).to_vec(),
+        vertices: [0, 1, 0].map(|function| Vertex { function, cost: 1 }).to_vec(),
+        edges: edges.to_vec(),
+        loops: vec![Loop { header: 1, last: 1, bound: 9 }],
+    };
+    assert_eq!(totals_by_all_walks(&problem, &[0, 1]), [10, 7]);
+    assert_eq!(bound_of(&problem, &[0, 1]), Bound { need: 2, contested: 0, first_loads: 5, bound: 7 });
+    assert_eq!(longest_run(&problem, &[0, 1]), 7);
 }
 
 #[test]

@@ -1,4 +1,4 @@
-//! What the tests and the benchmark share: seeded problems, drawings, layouts and walks, lawful and damaged.
+//! What the tests and the benchmark share: seeded problems, drawings, layouts and walks, lawful and damaged, and what they are like.
 
 pub mod damage;
 pub mod drawings;
@@ -6,6 +6,7 @@ pub mod layouts;
 pub mod lent;
 pub mod problems;
 pub mod random;
+pub mod totals;
 pub mod walks;
 
 /// How many times the usual number of cases to try: the variable CASES, or 1.

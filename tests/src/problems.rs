@@ -62,6 +62,14 @@ impl Plan {
         }
     }
 
+    /// A random plan of at most so many vertices, with few edges and many functions: different branches meet different functions.
+    pub fn branching(random: &mut Random, most: usize) -> Plan {
+        let plan = Plan::small(random, most);
+        let functions = random.count(2..=plan.vertices.clamp(2, MOST_FUNCTIONS));
+        let loops = random.count(0..=plan.vertices.min(12) / 3);
+        Plan { functions, loops, edges: random.count(0..=plan.vertices), dead: 0, around: false, ..plan }
+    }
+
     /// A random plan of any size.
     pub fn medium(random: &mut Random) -> Plan {
         let vertices = random.count(2..=MOST_VERTICES);
@@ -228,31 +236,35 @@ pub fn longest(random: &mut Random) -> Problem {
 }
 
 /// A problem whose greatest visit charges under the empty layout are exactly `total` and whose one function has a load cost of
-/// `load`: nests of three, two and one loops of the most visits, and a vertex outside all loops, each as often as it goes into the rest.
+/// `load`.
 pub fn with_total(total: u64, load: u32) -> Problem {
-    let mut vertices = Vec::new();
-    let mut edges = Vec::new();
-    let mut loops = Vec::new();
-    let mut rest = total;
+    let functions = vec![Function { size: 1, load }];
+    followed_by(Problem { scratchpad: MOST_SIZE, functions, vertices: vec![], edges: vec![], loops: vec![] }, total)
+}
+
+/// The problem with more vertices behind its last one, whose own costs are exactly `more` on a walk that makes the most of them: nests of
+/// three, two and one loops of the most visits, and a vertex outside all loops, each as often as it goes into the rest. They are of the
+/// function of that last vertex, so they are neither contested nor early, and either total is greater by `more`.
+pub fn followed_by(mut problem: Problem, more: u64) -> Problem {
+    let function = problem.vertices.last().map_or(0, |vertex| vertex.function);
+    let mut rest = more;
     for depth in (0..=3u32).rev() {
         let visits = u64::from(MOST_VISITS).pow(depth);
         let cost = (rest / visits).min(u64::from(MOST_SIZE));
         rest -= cost * visits;
         // headers without cost around the vertex that has it, which is the header of the innermost
-        let first = vertices.len() as u32;
+        let first = problem.vertices.len() as u32;
         let last = first + depth.saturating_sub(1);
-        for header in first..=last {
-            vertices.push(Vertex { function: 0, cost: if header == last { cost as u32 } else { 0 } });
-            edges.push(Edge { from: header, to: header + 1 });
+        for vertex in first..=last {
+            problem.vertices.push(Vertex { function, cost: if vertex == last { cost as u32 } else { 0 } });
+            problem.edges.extend(vertex.checked_sub(1).map(|from| Edge { from, to: vertex }));
             if depth > 0 {
-                loops.push(Loop { header, last, bound: MOST_VISITS });
-                edges.push(Edge { from: last, to: header });
+                problem.loops.push(Loop { header: vertex, last, bound: MOST_VISITS });
+                problem.edges.push(Edge { from: last, to: vertex });
             }
         }
     }
     assert_eq!(rest, 0, "the rest is below the most visits after each nest");
-    // the last vertex is outside all loops and has no edge out
-    edges.retain(|edge| (edge.from as usize) < vertices.len() - 1);
-    edges.sort_unstable();
-    Problem { scratchpad: MOST_SIZE, functions: vec![Function { size: 1, load }], vertices, edges, loops }
+    problem.edges.sort_unstable();
+    problem
 }

@@ -14,13 +14,16 @@ use std::time::Instant;
 use examiner_tests::damage::*;
 use examiner_tests::drawings::{self, drawn, DrawingPlan, DRAWING_DAMAGES};
 use examiner_tests::lent::Lent;
-use examiner_tests::problems::{lawful, longest, with_total, Amounts, Plan};
+use examiner_tests::problems::{followed_by, lawful, longest, with_total, Amounts, Plan};
 use examiner_tests::random::Random;
+use examiner_tests::totals::{self, Priced};
 use examiner_tests::{effort, layouts, walks};
 use reference::drawing::{graph_of, Numbers, GRAPH};
-use reference::examples::{at_limits, chain, d1, d2, d3, d4, d5, d6, p, q, r, D4, M10};
+use reference::examples::{at_limits, chain, d1, d2, d3, d4, d5, d6, p, q, r, s, t, u, v, w, D4, M10};
+use reference::layout::{check, filled};
+use reference::longest::by_states;
 use reference::problem::*;
-use reference::{stack, Drawing, DrawnFunction, DrawnVertex, Run};
+use reference::{stack, Drawing, DrawnFunction, DrawnVertex, Run, Totals};
 
 const SHORT: &str = "an accepted layout that is short";
 const SHORT_WITH_GAP: &str = "an accepted layout that is short, with a gap below a listed region";
@@ -64,6 +67,13 @@ const LEAST: [(&str, usize); 12] = [
 ];
 /// How often drawings are refused for each of these at least.
 const LEAST_REFUSED: usize = 200;
+
+/// How often each case of the two totals is met at least.
+fn least_of_totals() -> Vec<(&'static str, usize)> {
+    let smaller = [totals::FIRST_SMALLER, totals::SECOND_SMALLER, totals::BOTH_AGREE].map(|what| (what, 2_000));
+    let rarer = [&totals::SHAPES[..], &totals::LIMITS, &totals::READINGS].concat();
+    smaller.into_iter().chain(rarer.into_iter().map(|what| (what, 100))).collect()
+}
 
 /// Calls both implementations and counts.
 struct Comparison {
@@ -267,7 +277,7 @@ impl Comparison {
             return;
         };
         let functions = drawing.functions.len();
-        let simulated = stack::simulate(drawing, &reference::layout::filled(layout, functions), run);
+        let simulated = stack::simulate(drawing, &filled(layout, functions), run);
         assert_eq!(walked, simulated, "the walk is the left, the run with a call stack the right");
         self.saw(DRAWN_RUN, true);
         self.saw(DEEP_RUN, run.iter().any(|stack| stack.len() >= 4));
@@ -332,6 +342,16 @@ impl Comparison {
             self.accepted(file, layout, bound.need);
         }
         bound.ok().map(|bound| bound.bound)
+    }
+
+    /// The totals of a lawful problem under a layout that fits. Counts what they are like.
+    fn totals<'a>(&mut self, problem: &'a Problem, layout: &[u8]) -> Priced<'a> {
+        let (regions, _) = check(problem, layout).expect("it fits");
+        let priced = Priced::new(problem, &regions);
+        for (what, it) in priced.cases() {
+            self.saw(what, it);
+        }
+        priced
     }
 
     /// Counts the accepted layouts that had to be filled in.
@@ -449,6 +469,9 @@ impl Comparison {
         let is_dead = |l: &Loop| !problem.edges.iter().any(|e| l.holds(e.from) && !l.holds(e.to));
         self.saw("a dead loop", problem.loops.iter().any(is_dead));
         self.saw("a loop of bound 1", problem.loops.iter().any(|l| l.bound == 1));
+        if check(&problem, &layout).is_ok() {
+            self.totals(&problem, &layout);
+        }
         self.file(&file);
         self.record(&problem);
         for turn in 0..3 {
@@ -684,6 +707,49 @@ fn limits(c: &mut Comparison) {
         let straight: Vec<u32> = (0..=depth + 1).collect();
         c.layout_and_walk(&file, &[0, 0], &straight);
         c.layout_and_walk(&file, &[0, 1], &straight);
+    }
+}
+
+/// A small problem with many functions, in a region each about every second time.
+fn branching(c: &mut Comparison, most: usize) -> (Problem, Vec<u8>) {
+    let plan = Plan::branching(&mut c.random, most);
+    let problem = lawful(&mut c.random, &plan);
+    let layout = if c.random.percent(50) { vec![] } else { layouts::lawful(&mut c.random, plan.functions) };
+    (problem, layout)
+}
+
+/// Problems where the totals part, and the walks that are charged the most.
+fn two_totals(c: &mut Comparison) {
+    for problem in [s(), t(), u(), v(), w()] {
+        c.totals(&problem, &[]);
+        c.layout_and_walk(&file_of(&problem), &[], &[0]);
+    }
+    for _ in 0..10_000 * effort() {
+        let (problem, layout) = branching(c, 24);
+        let priced = c.totals(&problem, &layout);
+        for (what, it) in priced.readings() {
+            c.saw(what, it);
+        }
+        for charges in [&priced.first(), &priced.second] {
+            let walk = by_states(&problem, charges, 1_000).map_or(vec![0], |(_, walk)| walk);
+            c.layout_and_walk(&file_of(&problem), &layout, &walk);
+        }
+    }
+}
+
+/// Either total at the limit and one past it, the other as it falls.
+fn totals_at_the_limit(c: &mut Comparison) {
+    for _ in 0..1_500 * effort() {
+        let (problem, layout) = branching(c, 24);
+        let Totals { first, second, .. } = c.totals(&problem, &layout).totals;
+        for (total, past) in [(first, 0), (first, 1), (second, 0), (second, 1)] {
+            let more = u128::from(MOST_BOUND) + past - total;
+            let followed = followed_by(problem.clone(), more as u64);
+            let totals = c.totals(&followed, &layout).totals;
+            assert_eq!((totals.first, totals.second), (first + more, second + more));
+            let bound = c.bound(&file_of(&followed), &layout);
+            assert_eq!(bound.map(u128::from), Some(totals.smaller()).filter(|&bound| bound <= u128::from(MOST_BOUND)));
+        }
     }
 }
 
@@ -975,7 +1041,7 @@ fn empty_slices(c: &mut Comparison) {
 fn main() {
     let mut comparison = Comparison::new();
     type Group = fn(&mut Comparison);
-    // the quick ones first, of files and of drawings
+    // the quick ones first, of files and of drawings; then the two totals
     let groups: &[(&str, Group)] = &[
         ("empty slices", empty_slices),
         ("random small graphs", any_small_graph),
@@ -995,6 +1061,8 @@ fn main() {
         ("small drawings", small_drawings),
         ("damaged drawings", damaged_drawings),
         ("drawings of any size", drawings_of_any_size),
+        ("two totals", two_totals),
+        ("totals at the limit", totals_at_the_limit),
     ];
     for (index, (name, group)) in groups.iter().enumerate() {
         let started = Instant::now();
@@ -1028,7 +1096,7 @@ fn main() {
     for (what, times) in &comparison.seen {
         assert!(*times > 0, "there was never {what}");
     }
-    for (what, least) in LEAST.into_iter().chain(DRAWING_REFUSED.map(|(_, what)| (what, LEAST_REFUSED))) {
+    for (what, least) in LEAST.into_iter().chain(DRAWING_REFUSED.map(|(_, what)| (what, LEAST_REFUSED))).chain(least_of_totals()) {
         assert!(comparison.seen[what] >= least, "there was too seldom {what}");
     }
     println!("\n{} calls agree; every refusal from 1 to 20 was met", comparison.calls.values().sum::<usize>());

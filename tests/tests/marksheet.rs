@@ -13,7 +13,7 @@ use examiner_tests::damage::{damaged_file, file_of, FILE_DAMAGES};
 use examiner_tests::problems::{lawful, with_total, Plan};
 use examiner_tests::random::Random;
 use examiner_tests::{effort, layouts};
-use reference::examples::{p, M10};
+use reference::examples::{p, t, M10};
 use reference::problem::MOST_BOUND;
 
 /// A folder of its own to start the program in, removed afterwards.
@@ -116,6 +116,11 @@ fn a_layout_file_is_priced_or_refused() {
     prints(&Desk::new("unknown").with_layout(&[0, 32]).mark(&file), "refused 12 at 1\n");
     prints(&Desk::new("longer").with_layout(&[0, 1, 1, 0]).mark(&file), "refused 11 at 3\n");
     prints(&Desk::new("long").with_layout(&[0; 5_000]).mark(&file), "refused 11 at 3\n");
+}
+
+#[test]
+fn one_of_two_helpers_is_a_first_load() {
+    prints(&Desk::new("helpers").mark(&file_of(&t())), "need 3\ncharged 0\nfirst 9\nbound 12\n");
 }
 
 #[test]

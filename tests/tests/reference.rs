@@ -6,15 +6,17 @@ use std::path::Path;
 
 use examiner_tests::damage::*;
 use examiner_tests::drawings::{self, DrawingPlan, Shape, DRAWING_DAMAGES};
-use examiner_tests::problems::{lawful, longest, with_total, Plan};
+use examiner_tests::problems::{followed_by, lawful, longest, with_total, Plan};
 use examiner_tests::random::Random;
+use examiner_tests::totals::{self, Priced};
 use examiner_tests::{effort, layouts, walks};
-use reference::examples::p;
-use reference::layout::{check, cold, contested, filled, filled_in_turn, first_loads, visit_charges};
-use reference::longest::{by_contraction, by_states, lawful_walks};
+use reference::examples::{p, t, u};
+use reference::layout::{check, contested, filled, filled_in_turn};
+use reference::longest::{by_contraction, by_states, lawful_walks, Charges};
 use reference::problem::*;
 use reference::run::{check_by_looking_back, simulate, simulate_by_looking_back};
-use reference::{drawing, fast, file, graph, inline, interference, stack, Drawing, DrawnFunction};
+use reference::totals::{early_by_states, first_loads, is_outermost};
+use reference::{drawing, fast, file, graph, inline, interference, stack, Drawing, DrawnFunction, Totals};
 
 /// What the operations give on bytes, by the quick methods, in the form of the plain ones.
 fn fast_read(file: &[u8]) -> Result<[usize; 4], Refusal> {
@@ -178,6 +180,19 @@ fn interference_by_search_and_by_states() {
     }
 }
 
+/// The greatest charges by contraction. The unfolded graph gives the same, with a lawful walk that earns it, where it has few states: then
+/// one more is counted.
+fn greatest(problem: &Problem, charges: &Charges, by_state: &mut usize) -> u128 {
+    let greatest = by_contraction(problem, charges);
+    if let Some((sum, walk)) = by_states(problem, charges, 30_000) {
+        *by_state += 1;
+        assert_eq!(sum, greatest, "{problem:?} {charges:?}");
+        assert_eq!(check_by_looking_back(problem, &walk), Ok(()));
+        assert_eq!(charges.of(problem, &walk), sum);
+    }
+    greatest
+}
+
 #[test]
 fn greatest_charges_by_contraction_by_states_and_by_all_walks() {
     let mut random = Random::seeded(3);
@@ -185,35 +200,87 @@ fn greatest_charges_by_contraction_by_states_and_by_all_walks() {
     for _ in 0..8_000 * effort() {
         let plan = Plan::small(&mut random, 9);
         let problem = lawful(&mut random, &plan);
-        let layout = layouts::lawful(&mut random, plan.functions);
-        let (regions, need) = check(&problem, &layout).expect("the scratchpad is the greatest");
-        let contested = contested(&problem, &interference::by_states(&problem), &regions);
-        let charges = visit_charges(&problem, &contested);
-        let greatest = by_contraction(&problem, &charges);
-        let first_loads = first_loads(&problem, &cold(&problem, &contested));
-        let bound = reference::layout::bound(&problem, &regions, need).expect("small problems stay below the limit").bound;
-        assert_eq!(u128::from(bound), greatest + u128::from(first_loads));
-
-        // the unfolded graph gives the same sum, and a lawful walk that earns it
-        if let Some((sum, walk)) = by_states(&problem, &charges, 30_000) {
-            by_state += 1;
-            assert_eq!(sum, greatest, "{problem:?} {layout:?}");
-            assert_eq!(check_by_looking_back(&problem, &walk), Ok(()));
-            assert_eq!(reference::run::charges(&charges, &walk), sum);
-        }
-        // no lawful walk has more, and none runs longer than the bound
+        // any charges at all, inner loops' among them
+        let mut amounts = |count: usize, most: u64| (0..count).map(|_| random.within(0..=most)).collect();
+        let charges = Charges { visit: amounts(problem.vertices.len(), 20), entry: amounts(problem.loops.len(), 60) };
+        let greatest = greatest(&problem, &charges, &mut by_state);
         let mut most = 0;
-        let all = lawful_walks(&problem, 20_000, &mut |walk| {
-            most = most.max(reference::run::charges(&charges, walk));
-            assert!(simulate(&problem, &regions, walk).cycles <= bound, "{problem:?} {layout:?} {walk:?}");
-        });
+        let all = lawful_walks(&problem, 10_000, &mut |walk| most = most.max(charges.of(&problem, walk)));
         if all {
             by_walk += 1;
-            assert_eq!(most, greatest, "{problem:?} {layout:?}");
+            assert_eq!(most, greatest, "{problem:?} {charges:?}");
         }
     }
     println!("{by_state} problems by states, {by_walk} by all walks");
     assert!(by_state > 5_000 && by_walk > 3_000);
+}
+
+/// A small problem, and a layout of it that keeps the functions apart about every second time.
+fn several_functions(random: &mut Random) -> (Problem, Vec<u8>) {
+    let plan = if random.percent(30) { Plan::small(random, 9) } else { Plan::branching(random, 12) };
+    let layout = if random.percent(50) { vec![] } else { layouts::lawful(random, plan.functions) };
+    (lawful(random, &plan), layout)
+}
+
+/// Whether a walk visits each vertex outside all loops, and enters each outermost loop, at most once.
+fn is_once_outside_and_in(problem: &Problem, walk: &[u32]) -> bool {
+    let outside = walk.iter().copied().filter(|&v| problem.loops.iter().all(|l| !l.holds(v)));
+    let enters = |l: &Loop| (0..walk.len()).filter(|&at| l.holds(walk[at]) && (at == 0 || !l.holds(walk[at - 1]))).count();
+    !has_a_pair(outside) && problem.loops.iter().filter(|l| is_outermost(problem, l)).all(|l| enters(l) <= 1)
+}
+
+/// Holds the totals and the bound to what other methods give. The sums that were found by states too are counted.
+fn smaller_total_by_states(problem: &Problem, regions: &[u8], priced: &Priced, by_state: &mut usize) {
+    assert_eq!(priced.contested, contested(problem, &interference::by_states(problem), regions), "{problem:?} {regions:?}");
+    assert_eq!(priced.early, early_by_states(problem, &priced.contested), "{problem:?} {regions:?}");
+    let Totals { visits, first, second } = priced.totals;
+    assert_eq!(visits, greatest(problem, &priced.first(), by_state));
+    assert_eq!(first, visits + u128::from(first_loads(problem, &priced.early)));
+    assert_eq!(second, greatest(problem, &priced.second, by_state));
+    let given = reference::layout::bound(problem, regions, 0).expect("small problems stay below the limit");
+    assert_eq!([given.bound, given.first_loads].map(u128::from), [first.min(second), first.min(second) - visits]);
+}
+
+/// On every lawful walk either total covers the run, and so does the bound; one walk is charged the most. Says false where there are too
+/// many walks.
+fn every_walk_is_covered(problem: &Problem, regions: &[u8], priced: &Priced) -> bool {
+    let Totals { visits, first, second } = priced.totals;
+    let (visit_charges, first_loads) = (priced.first(), first - visits);
+    let mut most = [0, 0];
+    let all = lawful_walks(problem, 10_000, &mut |walk| {
+        let cycles = u128::from(simulate(problem, regions, walk).cycles);
+        let [visits, second] = [&visit_charges, &priced.second].map(|charges| charges.of(problem, walk));
+        assert!(cycles <= visits + first_loads && cycles <= second && visits <= second, "{problem:?} {regions:?} {walk:?}");
+        assert!(cycles <= priced.totals.smaller(), "{problem:?} {regions:?} {walk:?}");
+        assert!(is_once_outside_and_in(problem, walk), "{problem:?} {walk:?}");
+        most = [most[0].max(visits), most[1].max(second)];
+    });
+    assert!(!all || most == [visits, second], "{problem:?} {regions:?}");
+    all
+}
+
+#[test]
+fn the_bound_is_the_smaller_total_and_no_lawful_walk_runs_longer() {
+    let mut random = Random::seeded(12);
+    let (mut by_state, mut by_walk) = (0, 0);
+    let mut seen = BTreeMap::new();
+    for _ in 0..8_000 * effort() {
+        let (problem, layout) = several_functions(&mut random);
+        let (regions, _) = check(&problem, &layout).expect("the scratchpad is the greatest");
+        let priced = Priced::new(&problem, &regions);
+        smaller_total_by_states(&problem, &regions, &priced, &mut by_state);
+        by_walk += usize::from(every_walk_is_covered(&problem, &regions, &priced));
+        for (what, it) in priced.cases().into_iter().chain(priced.readings()) {
+            *seen.entry(what).or_insert(0) += usize::from(it);
+        }
+    }
+    println!("{by_state} sums by states, {by_walk} problems by all walks");
+    assert!(by_state > 10_000 && by_walk > 3_000);
+    let smaller = [totals::FIRST_SMALLER, totals::SECOND_SMALLER, totals::BOTH_AGREE];
+    for what in [&smaller[..], &totals::SHAPES, &totals::READINGS].concat() {
+        println!("{:6}  {what}", seen[what]);
+        assert!(seen[what] > 20, "there was hardly ever {what}");
+    }
 }
 
 #[test]
@@ -277,6 +344,20 @@ fn bounds_at_the_limit() {
     assert_eq!(reference::bound(&file(MOST_BOUND - 6, 7), &[]), above);
 }
 
+/// T and U, each total in turn at the limit and one past it.
+#[test]
+fn bounds_where_one_total_passes_the_limit() {
+    for (problem, first, second) in [(t(), 15, 12), (u(), 15, 18)] {
+        for (total, past) in [(first, 0), (first, 1), (second, 0), (second, 1)] {
+            let more = MOST_BOUND + past - total;
+            let file = file_of(&followed_by(problem.clone(), more));
+            let bound = Some(more + first.min(second)).filter(|&bound| bound <= MOST_BOUND).ok_or(Refusal { number: 14, place: 0 });
+            assert_eq!(reference::bound(&file, &[]).map(|given| given.bound), bound);
+            assert_eq!(fast::bound(&file, &[]), reference::bound(&file, &[]));
+        }
+    }
+}
+
 #[test]
 fn the_longest_lawful_file() {
     let file = file_of(&longest(&mut Random::seeded(6)));
@@ -327,6 +408,7 @@ fn quick_methods_agree_with_plain_ones() {
         let plan = match case % 20 {
             0 => Plan::largest(&mut random),
             1 | 2 => Plan::medium(&mut random),
+            3..=9 => Plan::branching(&mut random, 24),
             _ => Plan::small(&mut random, 14),
         };
         let mut problem = lawful(&mut random, &plan);

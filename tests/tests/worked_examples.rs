@@ -1,5 +1,5 @@
-//! M1 to M10 of document 01 and layouts that leave functions off, asked of the library through the safe wrapper, and the wrapper's own
-//! forms.
+//! M1 to M10 of document 01, layouts that leave functions off and the two totals, asked of the library through the safe wrapper, and the
+//! wrapper's own forms.
 
 use examiner::{Edge, Fields, Function, Loop, Refusal, RefusalKind, Vertex};
 use reference::examples::M10;
@@ -39,6 +39,34 @@ fn r(bound: u32) -> Vec<u8> {
 fn s() -> Vec<u8> {
     let vertices = [(0, 10), (1, 1), (2, 100), (2, 10)];
     file(&fields(3, &[(1, 5), (1, 3), (1, 4)], &vertices, &[(0, 1), (0, 2), (1, 3), (2, 3)], &[]))
+}
+
+/// Functions of one byte each, with room for all, and vertices of cost 1.
+fn of_unit_costs(loads: &[u32], functions: &[u32], edges: &[(u32, u32)], loops: &[(u32, u32, u32)]) -> Vec<u8> {
+    let sizes_and_loads: Vec<_> = loads.iter().map(|&load| (1, load)).collect();
+    let vertices: Vec<_> = functions.iter().map(|&function| (function, 1)).collect();
+    file(&fields(loads.len() as u32, &sizes_and_loads, &vertices, edges, loops))
+}
+
+/// Calls one of two helpers.
+fn t() -> Vec<u8> {
+    of_unit_costs(&[5, 3, 4], &[0, 1, 2, 0], &[(0, 1), (0, 2), (1, 3), (2, 3)], &[])
+}
+
+/// Function 1 is early before the loop and in it.
+fn u() -> Vec<u8> {
+    of_unit_costs(&[5, 3], &[0, 1, 0, 1, 0], &[(0, 1), (0, 2), (1, 2), (2, 3), (3, 2), (3, 4)], &[(2, 3, 2)])
+}
+
+/// Starts in a loop.
+fn v() -> Vec<u8> {
+    of_unit_costs(&[5], &[0, 0], &[(0, 0), (0, 1)], &[(0, 0, 2)])
+}
+
+/// Two functions are early in a loop, one of them in a loop inside it.
+fn w() -> Vec<u8> {
+    let edges = [(0, 1), (1, 2), (1, 4), (2, 2), (2, 3), (3, 1)];
+    of_unit_costs(&[5, 3, 4], &[0, 0, 1, 2, 0], &edges, &[(1, 3, 2), (2, 2, 3)])
 }
 
 #[test]
@@ -145,6 +173,19 @@ mod bounds {
         assert_eq!(bound(&s(), &[0, 0]), Ok(Bound { need: 2, contested: 1, first_loads: 9, bound: 129 }));
         assert_eq!(bound(&s(), &[]), Ok(Bound { need: 3, contested: 0, first_loads: 12, bound: 132 }));
     }
+
+    /// Document 01's total and the second are 15 and 12, and 15 and 18.
+    #[test]
+    fn t_u_one_total_is_smaller() {
+        assert_eq!(bound(&t(), &[0, 1, 2]), Ok(Bound { need: 3, contested: 0, first_loads: 9, bound: 12 }));
+        assert_eq!(bound(&u(), &[0, 1]), Ok(Bound { need: 2, contested: 0, first_loads: 8, bound: 15 }));
+    }
+
+    #[test]
+    fn v_w_both_totals_agree() {
+        assert_eq!(bound(&v(), &[0]), Ok(Bound { need: 1, contested: 0, first_loads: 5, bound: 8 }));
+        assert_eq!(bound(&w(), &[0, 1, 2]), Ok(Bound { need: 3, contested: 0, first_loads: 12, bound: 20 }));
+    }
 }
 
 mod runs {
@@ -191,6 +232,16 @@ mod runs {
     #[test]
     fn m6_q() {
         assert_eq!(run(&q(), &[0, 1], &[0, 2, 3]).map(|r| r.cycles), Ok(48));
+    }
+
+    /// Each takes all of its bound.
+    #[test]
+    fn longest_runs_of_t_u_v_w() {
+        let cycles = |file: &[u8], walk: &[u32]| run(file, &[], walk).expect("lawful").cycles;
+        assert_eq!(cycles(&t(), &[0, 2, 3]), 12);
+        assert_eq!(cycles(&u(), &[0, 1, 2, 3, 2, 3, 4]), 15);
+        assert_eq!(cycles(&v(), &[0, 0, 1]), 8);
+        assert_eq!(cycles(&w(), &[0, 1, 2, 2, 2, 3, 1, 4]), 20);
     }
 
     #[test]

@@ -47,9 +47,9 @@ pub struct Bound {
     pub need: u64,
     /// The number of contested vertices.
     pub contested: u64,
-    /// The first loads in cycles: the load cost of each cold function once.
+    /// What first loads take of the bound, in cycles: the bound less the largest sum of visit charges over all lawful walks.
     pub first_loads: u64,
-    /// The bound in cycles: the largest sum of visit charges over all lawful walks, plus the first loads. No lawful walk runs longer.
+    /// The bound in cycles, the smaller of two totals. No lawful walk runs longer.
     pub bound: u64,
 }
 
@@ -186,6 +186,30 @@ pub fn interference(file: &[u8], words: &mut [u32]) -> Result<usize, Refusal> {
 
 /// Prices a layout: `layout[f]` is the region of function f, 0 to 31. A layout may be shorter than the function list: each function beyond
 /// its end gets, in turn, the lowest region that no earlier function has.
+///
+/// A visit to a vertex is charged its own cost, and its function's load cost if it is contested: if another function may have pushed its
+/// function out of the region. A vertex is early if it is not contested and some walk reaches it with no earlier vertex of its function. The
+/// bound is the smaller of two totals:
+/// - the largest sum of visit charges over all lawful walks, plus once the load cost of each function that has an early vertex;
+/// - the largest sum over all lawful walks of the visit charges, of the load cost too at each visit to an early vertex that no loop holds,
+///   and, at each entry of an outermost loop, of the load cost, once each, of every function of which the loop holds an early vertex.
+///
+/// ```
+/// use examiner::{bound, write_fields, Edge, Fields, Function, Vertex};
+///
+/// // vertex 0 goes on to a vertex of function 1 or to one of function 2: a walk loads one of the two
+/// let functions = [5, 3, 4].map(|load| Function { size: 1, load });
+/// let vertices = [0, 1, 2, 0].map(|function| Vertex { function, cost: 1 });
+/// let edges = [(0, 1), (0, 2), (1, 3), (2, 3)].map(|(from, to)| Edge { from, to });
+/// let fields = Fields::new(3, &functions, &vertices, &edges, &[]).expect("there are places for all");
+/// let mut file = [0; 2_091];
+/// let written = write_fields(&fields, &mut file)?;
+///
+/// let priced = bound(&file[..written], &[0, 1, 2])?;
+/// // three visits, and the loads of functions 0 and 2
+/// assert_eq!((priced.bound, priced.first_loads), (12, 9));
+/// # Ok::<(), examiner::Refusal>(())
+/// ```
 ///
 /// # Errors
 /// As [`read`]; then [`LayoutTooLong`](RefusalKind::LayoutTooLong), [`UnknownRegion`](RefusalKind::UnknownRegion),

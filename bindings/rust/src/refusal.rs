@@ -35,7 +35,7 @@ pub enum RefusalKind {
     UnknownRegion = 12,
     /// 13: the layout needs more than the scratchpad. The place is the number of bytes needed.
     ScratchpadTooSmall = 13,
-    /// 14: the bound passes 1,000,000,000,000,000,000 cycles. The place is 0.
+    /// 14: the bound passes 1,000,000,000,000,000,000 cycles, so both totals do. The place is 0.
     BoundTooLarge = 14,
     /// 15: not vertex 0 at position 0, no edge from the entry before, an unknown vertex, or the end is not the last vertex (then the
     /// place is the walk's length). The place is the first bad position.

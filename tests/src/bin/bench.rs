@@ -198,8 +198,9 @@ fn interference(subject: &Subject) -> Times {
 }
 
 fn bound(subject: &Subject) -> Times {
-    let library = examiner::bound(&subject.file, &subject.layout).expect("accepted").bound;
-    assert_eq!(library, fast::bound(&subject.file, &subject.layout).expect("accepted").bound);
+    let library = examiner::bound(&subject.file, &subject.layout).expect("accepted");
+    let reference = fast::bound(&subject.file, &subject.layout).expect("accepted");
+    assert_eq!((library.first_loads, library.bound), (reference.first_loads, reference.bound));
     measure(&mut || _ = black_box(examiner::bound(black_box(&subject.file), black_box(&subject.layout))), &mut || {
         _ = black_box(fast::bound(black_box(&subject.file), black_box(&subject.layout)))
     })
