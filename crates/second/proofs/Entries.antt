@@ -57,7 +57,7 @@ module _ {p : Problem} {words : List ℕ} (table : EarlyTable p (earlyIn words) 
       told-by-bit word f (gathered .member f) .1
       (v, low, omega arith, word-members table v below f .1 (eqb-true (functionOf p v) f (and-left (eqb (functionOf p v) f) _ y), and-right (eqb (functionOf p v) f) _ y))
 
-  pub range-loads : firstLoads p (has word) ≡ firstLoads p (holdsEarly p (earlyIn words) k)
+  range-loads : firstLoads p (has word) ≡ firstLoads p (holdsEarly p (earlyIn words) k)
   range-loads = ap (firstLoads p) (λ i f. same-bool (has word f) (holdsEarly p (earlyIn words) k f) (found f) (shown f) i)
 
 module _ (l loops early : List ℕ) (ok : Checked l) (chains : LoopChains l loops) (i : ℕ) (below : i < length (loopsIn l)) where

@@ -1,1 +1,1 @@
-// Laws of interference and runs: what closed tables hold, that simulated cycles are covered, and tests that tell contested and cold.
+// Laws of interference and runs: what closed tables hold, that simulated cycles are covered, and tests that tell contested, early and cold.
