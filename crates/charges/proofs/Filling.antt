@@ -13,11 +13,12 @@ use Rattle.model.specs.Places as places
 use Rattle.model.specs.Operations.{Checked}
 use Rattle.model.specs.Costs.{total, howMany}
 use Rattle.model.specs.Charges.{visitCharge}
-use Rattle.model.proofs.Cases.{by-cond, by-order}
+use Rattle.model.proofs.Cases.{by-order}
 use Rattle.model.proofs.Lists.{getD-replicate-self}
 use Rattle.regions.proofs.Sums.{Upto, turn, end, total-more, total-high}
 use Rattle.charges.specs.Tests.{Tallied, chargeLimit, Charged}
 use Rattle.charges.proofs.Sizes.{visit-high}
+use Rattle.charges.proofs.Flags.{answer-low}
 
 -- The numbers below i stand in the table as they should.
 pub record ValuesBelow (value : ℕ → ℕ) (i : ℕ) (xs : List ℕ) : Type 0 where
@@ -63,7 +64,7 @@ module _ {n : ℕ} {test : ℕ → Bool} {i : ℕ} {flags : List ℕ} {tally : �
         tallying .room,
         tallying .upto .is,
         tallying .upto .within,
-        total-high (λ k. cond (test k) 1 0) i 1 (λ k h. by-cond (λ (x : ℕ). x ≤ 1) (test k) (λ e. omega arith) (λ e. omega arith)),
+        total-high (λ k. cond (test k) 1 0) i 1 (λ k h. answer-low (test k)),
       )
 
   pub tally-end : n ≤ i → Tallied n test flags tally

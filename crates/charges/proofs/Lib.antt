@@ -1,4 +1,5 @@
 pub mod Sizes
 pub mod Answers
-pub mod Filling
 pub mod Flags
+pub mod Prices
+pub mod Filling

@@ -1,12 +1,12 @@
 -- How large the visit charges of a checked problem are.
-use Prim.Native.Nat.{ℕ, _+_, _≤_, _<_}
+use Prim.Native.Nat.{ℕ, _≤_, _<_}
 use mathlib.Core.Path.{_≡_}
 use mathlib.Core.List.{List}
 use mathlib.Core.Bool.{Bool, cond}
 use native.Mathlib.Omega.{arith}
 use Rattle.model.specs.Numbers.{problemOf}
 use Rattle.model.specs.Operations.{Checked}
-use Rattle.model.specs.Costs.{functionOf, ownCost, loadCost}
+use Rattle.model.specs.Costs.{functionOf, loadCost}
 use Rattle.model.specs.Charges.{visitCharge}
 use Rattle.model.proofs.Cases.{by-cond}
 use Rattle.facts.specs.Fields.{FieldFacts}
@@ -19,12 +19,8 @@ module _ (l : List ℕ) (checked : Checked l) where
   pub load-or-none : (t : Bool) (f : ℕ) → f < problemOf l .«function_count» → cond t (loadCost (problemOf l) f) 0 ≤ limits.mostCycles
   load-or-none t f below = by-cond (λ (x : ℕ). x ≤ limits.mostCycles) t (λ e. load-high l (facts _ checked) f below) (λ e. omega arith)
 
-  module _ (v : ℕ) (below : v < problemOf l .«vertex_count») {f : ℕ} (of-v : f ≡ functionOf (problemOf l) v) where
-    pub own-function : FieldFacts l × (f < problemOf l .«function_count»)
-    own-function = (facts l checked, omega (arith, function-below l (facts _ checked) v below))
-
-    pub cost-and-load : ownCost (problemOf l) v + loadCost (problemOf l) f ≤ chargeLimit
-    cost-and-load = omega (arith, cost-high l (facts _ checked) v below, load-high l (facts _ checked) f (own-function .1))
+  pub own-function : (v : ℕ) → v < problemOf l .«vertex_count» → {f : ℕ} → f ≡ functionOf (problemOf l) v → FieldFacts l × (f < problemOf l .«function_count»)
+  own-function v below of-v = (facts l checked, omega (arith, function-below l (facts _ checked) v below))
 
   pub visit-high : (contested : ℕ → Bool) (v : ℕ) → v < problemOf l .«vertex_count» → visitCharge (problemOf l) contested v ≤ chargeLimit
   unfolding visitCharge

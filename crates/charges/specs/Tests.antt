@@ -1,6 +1,6 @@
 -- Contested, told by words: word f of `rivals` has the other functions of the region of f, word v of `held` the functions that a walk to v may find held.
--- Flags keep a test's answers, 1 where it passes.
-use Prim.Native.Nat.{ℕ, _+_, _≤_, _<_}
+-- Flags keep a test's answers, 1 where it passes, and multiply the load cost in a visit's price.
+use Prim.Native.Nat.{ℕ, _+_, _*_, _≤_, _<_}
 use mathlib.Core.Path.{_≡_}
 use mathlib.Core.List.{List}
 use mathlib.Core.Bool.{Bool, cond}
@@ -8,7 +8,7 @@ use lib.ListN.{length, getD}
 use lib.Dec.{eqb, ltb}
 use lib.Bits.{bitAnd}
 use Rattle.model.specs.declared.Problem.{Problem}
-use Rattle.model.specs.Costs.{functionOf, howMany}
+use Rattle.model.specs.Costs.{functionOf, ownCost, loadCost, howMany}
 use Rattle.model.specs.Charges.{visitCharge}
 use Rattle.model.specs.Limits as limits
 use Rattle.model.specs.Places as places
@@ -31,9 +31,17 @@ pub record Tallied (n : ℕ) (test : ℕ → Bool) (flags : List ℕ) (tally : �
   pub told : FlagsTell n test flags
   pub tally-is : tally ≡ howMany n test
 
+-- Each of the first n flags is 0 or 1.
+pub record Flags (n : ℕ) (flags : List ℕ) : Type 0 where
+  pub low : (v : ℕ) → v < n → getD flags v 0 ≤ 1
+
 -- The test that flags keep.
 unfoldable pub flagged : List ℕ → ℕ → Bool
 flagged flags v = eqb (getD flags v 0) 1
+
+-- A visit's *price*, with a product for its load as in formula (7) of document 003: own cost, plus flag times load cost.
+unfoldable pub price : Problem → List ℕ → ℕ → ℕ
+price p flags v = ownCost p v + getD flags v 0 * loadCost p (functionOf p v)
 
 -- An own cost and a load cost come to no more.
 abbrev pub chargeLimit : ℕ

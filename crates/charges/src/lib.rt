@@ -1,17 +1,18 @@
-// Contested vertices, from a table of what regions may hold, and visit charges by flags. A problem is its checked numbers.
+// Contested vertices as flags, each 0 or 1, from a table of what regions may hold; and visit charges by flags. A problem is its checked numbers.
 use model::Cycles;
 use model::Numbers;
 use model::places;
 use model::units;
 ghost use mathlib.Core.Path.{_≡_};
 ghost use mathlib.Core.Bool.{cond};
-ghost use Prim.Native.Nat.{_<_};
+ghost use Prim.Native.Nat.{_*_, _≤_, _<_};
 ghost use lib.ListN.{length, replicate};
 ghost use Rattle.model.specs.Numbers.{problemOf};
 ghost use Rattle.model.specs.Operations.{Checked};
 ghost use Rattle.model.specs.Charges.{visitCharge};
+ghost use Rattle.model.specs.Limits.{mostCycles};
 ghost use Rattle.model.specs.Places.{mostVertices};
-ghost use Rattle.charges.specs.Tests.{contestedBy, flagged, Tallied, Charged};
+ghost use Rattle.charges.specs.Tests.{contestedBy, Flags, flagged, Tallied, Charged};
 
 // Whether some walk arrives at v with a rival of its function held: two words have a member in common.
 fn is_contested(
@@ -27,13 +28,11 @@ fn is_contested(
     0 < held[v] & rivals[f]
 }
 
+// A test's answer as a number: 1 where it passes, 0 where it fails.
 fn flag_of(set: bool) -> u8
     ensures { λ r. ⌜ r ≡ cond set 1 0 ⌝ }
 {
-    if set {
-        return 1;
-    }
-    0
+    set as u8
 }
 
 // Flags the contested vertices, and counts them.
@@ -58,17 +57,24 @@ pub fn mark_contested(
     tally
 }
 
-// A vertex's own cost, plus its function's load cost where it is flagged.
+// Cycles times a flag are cycles: all of them, or none.
+fn times(flag: u8, a: Cycles) -> Cycles
+    requires { ⌜ flag ≤ 1 ⌝ ∗ ⌜ a .0 ≤ mostCycles ⌝ }
+    ensures { λ r. ⌜ r .0 ≡ flag * a .0 ⌝ }
+{
+    let product = flag as u64 * a.0;
+    Cycles(product)
+}
+
+// The price of a visit, with a product for its load as in formula (7) of document 003: the vertex's own cost, plus its flag times its function's load cost.
 fn visit_charge(l: &Numbers, flags: &[u8; places::MOST_VERTICES], v: usize) -> Cycles
-    requires { ⌜ Checked (now l) ⌝ ∗ ⌜ v < problemOf (now l) .«vertex_count» ⌝ }
+    requires { ⌜ Checked (now l) ⌝ ∗ ⌜ v < problemOf (now l) .«vertex_count» ⌝ ∗ ⌜ Flags (problemOf (now l) .«vertex_count») (now flags) ⌝ }
     ensures { λ r. ⌜ r .0 ≡ visitCharge (problemOf (now (l .entry))) (flagged (now (flags .entry))) v ⌝ }
 {
     let own = lookup::own_cost(l, v);
-    if flags[v] == 1 {
-        let f = lookup::function_of(l, v);
-        return units::sum_of_cycles(own, lookup::load_of(l, f));
-    }
-    own
+    let f = lookup::function_of(l, v);
+    let load = lookup::load_of(l, f);
+    units::sum_of_cycles(own, times(flags[v], load))
 }
 
 // The visit charges in a table that is all zero, and stays so past the vertices.
@@ -77,7 +83,7 @@ pub fn fill_charges(
     flags: &[u8; places::MOST_VERTICES],
     charge: &mut [u64; places::MOST_VERTICES],
 )
-    requires { ⌜ Checked (now l) ⌝ ∗ ⌜ now charge ≡ replicate mostVertices 0 ⌝ }
+    requires { ⌜ Checked (now l) ⌝ ∗ ⌜ Flags (problemOf (now l) .«vertex_count») (now flags) ⌝ ∗ ⌜ now charge ≡ replicate mostVertices 0 ⌝ }
     ensures { λ r. ⌜ Charged (problemOf (now (l .entry))) (flagged (now (flags .entry))) (now (charge .exit)) ⌝ }
 {
     let count = lookup::vertex_count(l);

@@ -1,4 +1,4 @@
--- The second total's flags, vertex by vertex, and that visit charges by them are the second total's charges.
+-- The second total's flags, vertex by vertex; that they are 0 or 1, and that visit charges by them are the second total's charges.
 use Prim.Native.Nat.{ℕ, _+_, _≤_, _<_}
 use mathlib.Core.Path.{_≡_, refl}
 use mathlib.Core.List.{List}
@@ -7,12 +7,14 @@ use native.Mathlib.Omega.{arith}
 use lib.ListN.{getD}
 use lib.Dec.{eqb, ltb}
 use borrow.Author.Tests.{lt-ltb, le-ltb}
+use Rattle.model.specs.declared.Problem.{Problem}
 use Rattle.model.specs.Numbers.{problemOf}
 use Rattle.model.specs.Places as places
 use Rattle.model.specs.Costs.{functionOf, ownCost, loadCost}
 use Rattle.model.specs.Charges.{visitCharge, secondCharge}
+use Rattle.model.proofs.Cases.{by-cond}
 use Rattle.chains.specs.Chains.{LoopChains}
-use Rattle.charges.specs.Tests.{flagged}
+use Rattle.charges.specs.Tests.{Flags, flagged}
 use Rattle.early.specs.Early.{earlyIn, EarlyApart}
 use Rattle.second.specs.Second.{secondFlag, SecondFlags}
 use Rattle.second.proofs.Outer.{outside-told}
@@ -29,6 +31,18 @@ module _ (loops early flags : List ℕ) (v : ℕ) where
   pub flag-plain : getD loops v 0 ≤ 0 → getD early v 0 ≤ 0 → getD flags v 0 ≡ secondFlag loops early flags v
   unfolding secondFlag earlyIn
   flag-plain none plain = rw (le-ltb 0 (getD loops v 0) none, le-ltb 0 (getD early v 0) plain)
+
+-- They are 0 or 1 where the flags are.
+pub second-low :
+    {p : Problem} {loops early flags charged : List ℕ} → SecondFlags p loops early flags charged → Flags (p .«vertex_count») flags → Flags (p .«vertex_count») charged
+unfolding secondFlag
+second-low {loops = loops} {early} second are =
+    record {
+      low = λ v below.
+          rw (second .flag v below)
+          (by-cond (λ (x : ℕ). x ≤ 1) (ltb 0 (getD loops v 0)) (λ _. are .low v below)
+          (λ _. by-cond (λ (x : ℕ). x ≤ 1) (earlyIn early v) (λ _. omega arith) (λ _. are .low v below)));
+    }
 
 -- A vertex is charged its load once, contested or early: it is not both.
 once : (held early : Bool) (flag own load : ℕ) → (early ≡ true → eqb flag 1 ≡ false) →

@@ -12,7 +12,7 @@ ghost use Rattle.model.specs.Charges.{visitCharge, charges, secondTotal};
 ghost use Rattle.greatest.specs.Greatest.{GreatestCapped};
 ghost use Rattle.chains.specs.Chains.{Chained};
 ghost use Rattle.stays.specs.Tables.{cap};
-ghost use Rattle.charges.specs.Tests.{flagged};
+ghost use Rattle.charges.specs.Tests.{Flags, flagged};
 ghost use Rattle.early.specs.Early.{earlyIn, EarlyApart};
 
 // The greatest visit charges: entering a loop is charged nothing.
@@ -22,7 +22,7 @@ pub fn greatest_charges(
     loops: &LoopTable,
     flags: &[u8; places::MOST_VERTICES],
 ) -> Cycles
-    requires { ⌜ Checked (now l) ⌝ ∗ ⌜ Chained (now l) (now edges) (now loops) ⌝ }
+    requires { ⌜ Checked (now l) ⌝ ∗ ⌜ Flags (problemOf (now l) .«vertex_count») (now flags) ⌝ ∗ ⌜ Chained (now l) (now edges) (now loops) ⌝ }
     ensures { λ r. ⌜ GreatestCapped (problemOf (now (l .entry))) cap (charges (visitCharge (problemOf (now (l .entry))) (flagged (now (flags .entry))))) (r .0) ⌝ }
 {
     let mut charge = [0u64; places::MOST_VERTICES];
@@ -39,7 +39,8 @@ pub fn greatest_second(
     flags: &[u8; places::MOST_VERTICES],
     early: &EarlyWords,
 ) -> Cycles
-    requires { ⌜ Checked (now l) ⌝ ∗ ⌜ Chained (now l) (now edges) (now loops) ⌝ ∗ ⌜ EarlyApart (problemOf (now l)) (now flags) (now early) ⌝ }
+    requires { ⌜ Checked (now l) ⌝ ∗ ⌜ Flags (problemOf (now l) .«vertex_count») (now flags) ⌝ }
+    requires { ⌜ Chained (now l) (now edges) (now loops) ⌝ ∗ ⌜ EarlyApart (problemOf (now l)) (now flags) (now early) ⌝ }
     ensures { λ r. ⌜ GreatestCapped (problemOf (now (l .entry))) cap (secondTotal (problemOf (now (l .entry))) (flagged (now (flags .entry))) (earlyIn (now (early .entry)))) (r .0) ⌝ }
 {
     let charged = second::second_flags(l, loops, early, flags);

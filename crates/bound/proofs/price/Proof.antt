@@ -5,6 +5,7 @@ use borrow.Author.Needs.{needs}
 use Rattle.model.specs.Numbers.{problemOf}
 use Rattle.lookup.proofs.Places.{facts, few-vertices}
 use Rattle.chains.specs.Chains.{Chained}
+use Rattle.charges.proofs.Flags.{flags-low}
 use Rattle.early.proofs.Words.{early-apart, gathered-to}
 use Rattle.bound.specs.Priced.{Priced}
 use Rattle.bound.proofs.Prices.{Computed, greatest-most, priced}
@@ -117,13 +118,15 @@ loop-chains-requires c κs = begun (cold (c .before) .before) .pre .0
 greatest-charges-requires : tie.Need-greatest-charges-requires
 greatest-charges-requires c κs =
     let in-chains = c .before .before .before in
-    (begun (cold (loads in-chains) .before) .pre .0, chained in-chains)
+    let counted = cold (loads in-chains) .before in
+    (begun counted .pre .0, (flags-low (flags (early counted) .mark-contested .ensures .told), chained in-chains))
 
 greatest-second-requires : tie.Need-greatest-second-requires
 greatest-second-requires c κs =
     let in-chains = chains (c .before .before .before .before) in
     let counted = cold (loads in-chains) .before in
-    (begun counted .pre .0, (chained in-chains, early-apart _ (early counted .early-words .ensures)))
+    let in-early = early counted in
+    (begun counted .pre .0, (flags-low (flags in-early .mark-contested .ensures .told), (chained in-chains, early-apart _ (in-early .early-words .ensures))))
 
 answer-of-requires : tie.Need-answer-of-requires
 answer-of-requires c κs =

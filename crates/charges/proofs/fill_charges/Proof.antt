@@ -1,6 +1,5 @@
 -- `charges::fill_charges` keeps the visit charges of the vertices passed.
 use Prim.Native.Nat.{_≤_, _-_}
-use mathlib.Core.Path.{_≡_, _∙_}
 use native.Mathlib.Omega.{arith}
 use borrow.Author.Needs.{needs}
 use Rattle.model.specs.Numbers.{problemOf}
@@ -29,10 +28,12 @@ vertex-count-requires : tie.Need-vertex-count-requires Inv-loop μ-loop
 vertex-count-requires c κs = search needs
 
 loop-holds : tie.Need-loop-holds Inv-loop μ-loop
-loop-holds c = (omega arith, none-charged (c .before .pre .1))
+loop-holds c = (omega arith, none-charged (c .before .pre .1 .1))
 
 visit-charge-requires : tie.Need-visit-charge-requires Inv-loop μ-loop
-visit-charge-requires c κs = let n = counted (c .before) in (n .before .pre .0, omega (arith, n .vertex-count .ensures, c .loop-test .taken))
+visit-charge-requires c κs =
+    let n = counted (c .before) in
+    (n .before .pre .0, (omega (arith, n .vertex-count .ensures, c .loop-test .taken), n .before .pre .1 .0))
 
 mul-charge : tie.Need-mul-charge Inv-loop μ-loop
 mul-charge c = omega (arith, c .before .loop-test .taken, few (c .before .before))
