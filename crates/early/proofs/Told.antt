@@ -54,32 +54,34 @@ module _ {l : List ℕ} (checked : Checked l) where
   pub walk-function : {v : ℕ} {h : List ℕ} → Walk (EdgeOf (problemOf l)) v h → functionOf (problemOf l) v < problemOf l .«function_count»
   walk-function {v} walk = function-below l (facts _ checked) v (walk-below walk)
 
+  -- The words of a vertex and of its function have a member in common just where the vertex is contested.
+  module _ (layout rivals held : List ℕ) (is-rivals : RivalTable (problemOf l) layout rivals) (is-held : HeldTable (problemOf l) rivals held)
+      (v : ℕ) (below : v < problemOf l .«vertex_count») where
+    abbrev f : ℕ
+    f = functionOf (problemOf l) v
+
+    own : f < problemOf l .«function_count»
+    own = function-below l (facts _ checked) v below
+
+    pub shared : (sharedTest rivals held (problemOf l) v ≡ true) ↔ Contested (functionOf (problemOf l)) (EdgeOf (problemOf l)) (regionOf layout) v
+    shared = (
+      λ e.
+          let (g, held, rival) = common (getD held v 0) (getD rivals f 0) .0 (ltb-true 0 _ e) in
+          let (ne, known, same) = is-rivals .member f own g .0 rival in
+          contested-held (functionOf (problemOf l)) (regionOf layout) (EdgeOf (problemOf l)) v .1 (g, (λ q. ne (sym q)), same, is-held .member layout is-rivals v g .0 held),
+      λ c.
+          let (g, ne, same, holds) = contested-held (functionOf (problemOf l)) (regionOf layout) (EdgeOf (problemOf l)) v .0 c in
+          lt-ltb 0 _ (common (getD held v 0) (getD rivals f 0) .1 (
+            g,
+            is-held .member layout is-rivals v g .1 holds,
+            is-rivals .member f own g .1 ((λ q. ne (sym q)), held-known l checked layout v g holds, same),
+          )),
+    )
+
   module _ (layout rivals held fresh flags words : List ℕ) (cold : ℕ) (is-rivals : RivalTable (problemOf l) layout rivals)
       (is-held : HeldTable (problemOf l) rivals held) (is-fresh : FreshTable (problemOf l) fresh)
       (kept : FlagsTell (problemOf l .«vertex_count») (contestedBy (problemOf l) rivals held) flags)
       (is-early : EarlyTable (problemOf l) (earlyBy (problemOf l) flags fresh) words) (is-cold : Gathered words 0 (problemOf l .«vertex_count») cold) where
-    module _ (v : ℕ) (below : v < problemOf l .«vertex_count») where
-      abbrev f : ℕ
-      f = functionOf (problemOf l) v
-
-      own : f < problemOf l .«function_count»
-      own = function-below l (facts _ checked) v below
-
-      shared : (sharedTest rivals held (problemOf l) v ≡ true) ↔ Contested (functionOf (problemOf l)) (EdgeOf (problemOf l)) (regionOf layout) v
-      shared = (
-        λ e.
-            let (g, held, rival) = common (getD held v 0) (getD rivals f 0) .0 (ltb-true 0 _ e) in
-            let (ne, known, same) = is-rivals .member f own g .0 rival in
-            contested-held (functionOf (problemOf l)) (regionOf layout) (EdgeOf (problemOf l)) v .1 (g, (λ q. ne (sym q)), same, is-held .member layout is-rivals v g .0 held),
-        λ c.
-            let (g, ne, same, holds) = contested-held (functionOf (problemOf l)) (regionOf layout) (EdgeOf (problemOf l)) v .0 c in
-            lt-ltb 0 _ (common (getD held v 0) (getD rivals f 0) .1 (
-              g,
-              is-held .member layout is-rivals v g .1 holds,
-              is-rivals .member f own g .1 ((λ q. ne (sym q)), held-known l checked layout v g holds, same),
-            )),
-      )
-
     -- What flags say of early vertices is what the tables say.
     pub flags-early : (v : ℕ) → v < problemOf l .«vertex_count» → earlyBy (problemOf l) flags fresh v ≡ earlyTold (problemOf l) rivals held fresh v
     unfolding earlyBy earlyTold earlyTest contestedBy
@@ -106,7 +108,7 @@ module _ {l : List ℕ} (checked : Checked l) where
         told (problemOf l) layout (sharedTest rivals held (problemOf l)) (freshTest fresh (problemOf l)) (has cold)
         (record {
           vertex = λ v h walk. walk-below walk;
-          contested = shared;
+          contested = shared layout rivals held is-rivals is-held;
           reached = λ v below. told-by-bit (getD fresh v 0) _ (is-fresh .member v (functionOf (problemOf l) v) below (function-below l (facts _ checked) v below));
           coldest = coldest;
         })

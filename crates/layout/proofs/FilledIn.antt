@@ -98,7 +98,7 @@ module _ (p : Problem) (layout : List ℕ) (short : length layout ≤ p .«funct
         at (verdict.Refused f) = refl
 
 -- Where Bound gives a result the layout is no longer than the functions.
-accepted-short : (p : Problem) (layout : List ℕ) → judgeBound p layout ≡ verdict.Accepted → length layout ≤ p .«function_count»
+pub accepted-short : (p : Problem) (layout : List ℕ) → judgeBound p layout ≡ verdict.Accepted → length layout ≤ p .«function_count»
 unfolding judgeBound judgeLayout
 accepted-short p layout good = not-longer p layout (accepted-both (judgeLength p layout) _ (accepted-both (judgeProblem p) _ good .1) .0)
 
