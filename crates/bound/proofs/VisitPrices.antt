@@ -20,7 +20,7 @@ use Rattle.rivals.specs.Rivals.{RivalTable}
 use Rattle.held.specs.Flow.{HeldTable}
 use Rattle.charges.specs.Tests.{contestedBy, sharedTest, Tallied, price}
 use Rattle.charges.proofs.Prices.{price-is-visit-charge}
-use Rattle.early.proofs.Told.{shared}
+use Rattle.early.proofs.Told.{shared-contested}
 
 module _ {l rivals held : List ℕ} (checked : Checked l) (is-held : HeldTable (problemOf l) rivals held) where
   -- The tables tell contested vertices as every test does that says what the definition says.
@@ -29,7 +29,7 @@ module _ {l rivals held : List ℕ} (checked : Checked l) (is-held : HeldTable (
       (v : ℕ) → v < problemOf l .«vertex_count» → contestedBy (problemOf l) rivals held v ≡ contested v
   unfolding contestedBy contestedTest
   told-contested {regions} {contested} is-rivals told v below =
-      let (to, from) = shared checked regions rivals held is-rivals is-held v below in
+      let (to, from) = shared-contested checked regions rivals held is-rivals is-held v below in
       rw (lt-ltb v (problemOf l .«vertex_count») below)
       (same-bool (sharedTest rivals held (problemOf l) v) (contested v) (λ e. told .contested-all v (to e)) (λ e. from (told .contested-is v e)))
 
@@ -40,6 +40,6 @@ module _ {l rivals held : List ℕ} (checked : Checked l) (is-held : HeldTable (
       (v : ℕ) → v < problemOf l .«vertex_count» → price (problemOf l) flags v ≡ visitCharge (problemOf l) (says .1 .contested) v
   unfolding visitCharge
   bound-prices {layout} {flags} is-rivals marked says v below =
-      let regions = same-regions layout (problemOf l .«function_count») (accepted-short (problemOf l) layout (says .0)) in
-      rw (← told-contested is-rivals (told-alike refl refl (sym regions) (says .1 .told)) v below)
+      let same = same-regions layout (problemOf l .«function_count») (accepted-short (problemOf l) layout (says .0)) in
+      rw (← told-contested is-rivals (told-alike refl refl (sym same) (says .1 .told)) v below)
       (price-is-visit-charge (problemOf l) flags (marked .told) v below)

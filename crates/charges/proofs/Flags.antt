@@ -31,4 +31,4 @@ module _ {n : ℕ} {flags : List ℕ} where
 
   pub flag-own : Flags n flags → (v : ℕ) → v < n → getD flags v 0 ≡ cond (flagged flags v) 1 0
   unfolding flagged
-  flag-own are v below = own-answer (getD flags v 0) (are .low v below)
+  flag-own zero-or-one v below = own-answer (getD flags v 0) (zero-or-one .low v below)

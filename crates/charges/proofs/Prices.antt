@@ -28,7 +28,7 @@ module _ (p : Problem) (flags : List ℕ) where
 
   -- So it is by the test that flags keep.
   pub price-flagged : {n : ℕ} → Flags n flags → (v : ℕ) → v < n → price p flags v ≡ visitCharge p (flagged flags) v
-  price-flagged are v below = by-flag (flagged flags) v (flag-own are v below)
+  price-flagged zero-or-one v below = by-flag (flagged flags) v (flag-own zero-or-one v below)
 
   -- The price from its parts.
   pub price-of :

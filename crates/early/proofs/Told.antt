@@ -63,8 +63,8 @@ module _ {l : List ℕ} (checked : Checked l) where
     own : f < problemOf l .«function_count»
     own = function-below l (facts _ checked) v below
 
-    pub shared : (sharedTest rivals held (problemOf l) v ≡ true) ↔ Contested (functionOf (problemOf l)) (EdgeOf (problemOf l)) (regionOf layout) v
-    shared = (
+    pub shared-contested : (sharedTest rivals held (problemOf l) v ≡ true) ↔ Contested (functionOf (problemOf l)) (EdgeOf (problemOf l)) (regionOf layout) v
+    shared-contested = (
       λ e.
           let (g, held, rival) = common (getD held v 0) (getD rivals f 0) .0 (ltb-true 0 _ e) in
           let (ne, known, same) = is-rivals .member f own g .0 rival in
@@ -108,7 +108,7 @@ module _ {l : List ℕ} (checked : Checked l) where
         told (problemOf l) layout (sharedTest rivals held (problemOf l)) (freshTest fresh (problemOf l)) (has cold)
         (record {
           vertex = λ v h walk. walk-below walk;
-          contested = shared layout rivals held is-rivals is-held;
+          contested = shared-contested layout rivals held is-rivals is-held;
           reached = λ v below. told-by-bit (getD fresh v 0) _ (is-fresh .member v (functionOf (problemOf l) v) below (function-below l (facts _ checked) v below));
           coldest = coldest;
         })

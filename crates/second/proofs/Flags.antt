@@ -36,12 +36,12 @@ module _ (loops early flags : List ℕ) (v : ℕ) where
 pub second-low :
     {p : Problem} {loops early flags charged : List ℕ} → SecondFlags p loops early flags charged → Flags (p .«vertex_count») flags → Flags (p .«vertex_count») charged
 unfolding secondFlag
-second-low {loops = loops} {early} second are =
+second-low {loops = loops} {early} second zero-or-one =
     record {
       low = λ v below.
           rw (second .flag v below)
-          (by-cond (λ (x : ℕ). x ≤ 1) (ltb 0 (getD loops v 0)) (λ _. are .low v below)
-          (λ _. by-cond (λ (x : ℕ). x ≤ 1) (earlyIn early v) (λ _. omega arith) (λ _. are .low v below)));
+          (by-cond (λ (x : ℕ). x ≤ 1) (ltb 0 (getD loops v 0)) (λ _. zero-or-one .low v below)
+          (λ _. by-cond (λ (x : ℕ). x ≤ 1) (earlyIn early v) (λ _. omega arith) (λ _. zero-or-one .low v below)));
     }
 
 -- A vertex is charged its load once, contested or early: it is not both.
