@@ -15,6 +15,7 @@ pub mod Layouts
 pub mod Interference
 pub mod Charges
 pub mod Runs
+pub mod Evictions
 pub mod Operations
 pub mod Verdicts
 pub mod Results

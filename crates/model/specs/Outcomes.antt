@@ -14,12 +14,15 @@ use Rattle.model.specs.declared.BoundAnswer.{BoundAnswer}
 use Rattle.model.specs.declared.BoundAnswer.the-variants as bound
 use Rattle.model.specs.declared.RunAnswer.{RunAnswer}
 use Rattle.model.specs.declared.RunAnswer.the-variants as run
+use Rattle.model.specs.declared.EvictionAnswer.{EvictionAnswer}
+use Rattle.model.specs.declared.EvictionAnswer.the-variants as eviction
 use Rattle.model.specs.declared.InlineAnswer.{InlineAnswer}
 use Rattle.model.specs.declared.InlineAnswer.the-variants as inline
 use Rattle.model.specs.Refusals.{number, place}
 use Rattle.model.specs.Numbers.{numbersOf}
 use Rattle.model.specs.Operations.{readFile, writeProblem}
-use Rattle.model.specs.Results.{InterferenceSays, BoundSays, runWalk}
+use Rattle.model.specs.Evictions.{reasonNumber, reasonValues}
+use Rattle.model.specs.Results.{InterferenceSays, BoundSays, runWalk, EvictionSays}
 use Rattle.model.specs.Inlined.{inlineDrawing}
 
 -- A result's values, or a refusal's number and its place.
@@ -55,6 +58,11 @@ abbrev pub runOutcome : RunAnswer → Outcome
 runOutcome (run.Ran r) = Results (r .cycles .0 ∷ r .loads ∷ [])
 runOutcome (run.Refused f) = refusalOutcome f
 
+-- Eviction: the walk's entries, the reason's number and its values.
+abbrev pub evictionOutcome : EvictionAnswer → Outcome
+evictionOutcome (eviction.Shown e) = Results (e .count ∷ reasonNumber (e .reason) ∷ reasonValues (e .reason))
+evictionOutcome (eviction.Refused f) = refusalOutcome f
+
 -- Inline: the problem, as its numbers in file order.
 abbrev pub inlineOutcome : InlineAnswer → Outcome
 inlineOutcome (inline.Accepted p) = Results (numbersOf p)
@@ -73,9 +81,13 @@ runSays p layout walk = runOutcome (runWalk p layout walk)
 abbrev pub inlineSays : List ℕ → Outcome
 inlineSays d = inlineOutcome (inlineDrawing d)
 
--- An outcome that Interference says, where the lent words hold `after` at the end, and one that Bound says.
+-- An outcome that Interference says, where the lent words hold `after` at the end, one that Bound says, and one that Eviction says, where the lent walk holds
+-- `after` at the end.
 abbrev pub FillsWords : Problem → List ℕ → List ℕ → Outcome → Type 0
 FillsWords p words after o = (r : InterferenceAnswer) × InterferenceSays p words after r × (o ≡ interferenceOutcome r)
 
 abbrev pub IsBounded : Problem → List ℕ → Outcome → Type 0
 IsBounded p layout o = (r : BoundAnswer) × BoundSays p layout r × (o ≡ boundOutcome r)
+
+abbrev pub Evicted : Problem → List ℕ → ℕ → List ℕ → List ℕ → Outcome → Type 0
+Evicted p layout v walk after o = (r : EvictionAnswer) × EvictionSays p layout v walk after r × (o ≡ evictionOutcome r)

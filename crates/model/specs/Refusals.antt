@@ -2,7 +2,7 @@
 use Prim.Native.Nat.{ℕ}
 use mathlib.Core.Path.{_≡_}
 use Rattle.model.specs.declared.Refusal.{Refusal}
-use Rattle.model.specs.declared.Refusal.the-variants.{EndsEarly, Misspelt, OutOfRange, NotAscending, LeftOver, MissingEdge, WrongLoop, WrongEdge, NoEdgeBack, BufferTooShort, LayoutTooLong, UnknownRegion, ScratchpadTooSmall, BoundTooLarge, WrongStep, BeyondBound, WalkTooLong, Recursive, CountPassed, LastCalls}
+use Rattle.model.specs.declared.Refusal.the-variants.{EndsEarly, Misspelt, OutOfRange, NotAscending, LeftOver, MissingEdge, WrongLoop, WrongEdge, NoEdgeBack, BufferTooShort, LayoutTooLong, UnknownRegion, ScratchpadTooSmall, BoundTooLarge, WrongStep, BeyondBound, WalkTooLong, Recursive, CountPassed, LastCalls, UnknownVertex}
 use Rattle.model.specs.declared.Verdict.{Verdict}
 use Rattle.model.specs.declared.Verdict.the-variants as verdict
 
@@ -27,6 +27,7 @@ number (WalkTooLong at) = 17
 number (Recursive at) = 18
 number (CountPassed at) = 19
 number (LastCalls at) = 20
+number (UnknownVertex at) = 21
 
 abbrev pub place : Refusal → ℕ
 place (EndsEarly at) = at
@@ -49,6 +50,7 @@ place (WalkTooLong at) = at
 place (Recursive at) = at
 place (CountPassed at) = at
 place (LastCalls at) = at
+place (UnknownVertex at) = at
 
 -- The same refusal at another place.
 abbrev pub placedAt : Refusal → ℕ → Refusal
@@ -72,6 +74,7 @@ placedAt (WalkTooLong at) k = WalkTooLong k
 placedAt (Recursive at) k = Recursive k
 placedAt (CountPassed at) k = CountPassed k
 placedAt (LastCalls at) k = LastCalls k
+placedAt (UnknownVertex at) k = UnknownVertex k
 
 -- A verdict that refuses.
 abbrev pub Refuses : Verdict → Type 0

@@ -1,11 +1,12 @@
--- Interference, Bound and Run: what each gives.
+-- Interference, Bound, Run and Eviction: what each gives.
 use Prim.Native.Nat.{ℕ, _+_, _*_, _/_, _%_, _^_, _≤_, _<_}
 use mathlib.Core.Path.{_≡_}
 use mathlib.Core.List.{List, _∷_, reverse}
 use mathlib.Core.Bool.{Bool}
 use mathlib.Core.Logic.{_⊎_, _↔_}
 use lib.ListN.{length, getD}
-use Rattle.model.specs.declared.Refusal.the-variants.{BoundTooLarge}
+use lib.Seq.{sets}
+use Rattle.model.specs.declared.Refusal.the-variants.{BufferTooShort, BoundTooLarge}
 use Rattle.model.specs.declared.Verdict.{Verdict}
 use Rattle.model.specs.declared.Verdict.the-variants as verdict
 use Rattle.model.specs.declared.Problem.{Problem}
@@ -16,16 +17,21 @@ use Rattle.model.specs.declared.BoundAnswer.{BoundAnswer}
 use Rattle.model.specs.declared.BoundAnswer.the-variants as bound
 use Rattle.model.specs.declared.RunAnswer.{RunAnswer}
 use Rattle.model.specs.declared.RunAnswer.the-variants as run
+use Rattle.model.specs.declared.Reason.{Reason}
+use Rattle.model.specs.declared.EvictionAnswer.{EvictionAnswer}
+use Rattle.model.specs.declared.EvictionAnswer.the-variants as eviction
 use Rattle.model.specs.Zero.{cycles as cyclesOf}
+use Rattle.model.specs.Places.{mostVertices}
 use Rattle.model.specs.Limits.{mostRegions}
 use Rattle.model.specs.Numbers.{table}
 use Rattle.model.specs.Costs.{functionOf, howMany}
 use Rattle.model.specs.Walks.{EdgeOf, lastVertex, Lawful, Greatest, Smaller}
-use Rattle.model.specs.Layouts.{needOf}
+use Rattle.model.specs.Layouts.{regionOf, needOf}
 use Rattle.model.specs.Interference.{Interferes}
 use Rattle.model.specs.Charges.{Told, visitCharge, firstLoads, secondTotal, charges}
 use Rattle.model.specs.Runs.{cycles, loads, heldAfter}
-use Rattle.model.specs.Verdicts.{wordCount, judgeInterference, judgeBound, judgeRun}
+use Rattle.model.specs.Evictions.{EvictionIs}
+use Rattle.model.specs.Verdicts.{wordCount, judgeInterference, judgeBound, judgeRun, judgeEviction}
 
 -- Bit g of a word is set.
 abbrev pub Member : ℕ → ℕ → Type 0
@@ -100,3 +106,23 @@ regionsAfter (verdict.Refused f) p layout walk regions = regions
 
 unfoldable pub runRegions : Problem → List ℕ → List ℕ → List ℕ → List ℕ
 runRegions p layout walk regions = regionsAfter (judgeRun p layout walk) p layout walk regions
+
+-- **Eviction**: the reason and the walk's entries, and the walk at the front of the lent buffer. Last 10, the buffer has fewer entries than the walk (entries
+-- needed). The buffer's other entries keep their values, after a refusal all of them.
+abbrev pub EvictionSays : Problem → List ℕ → ℕ → List ℕ → List ℕ → EvictionAnswer → Type 0
+EvictionSays p layout v before after (eviction.Shown e) =
+    (judgeEviction p layout v ≡ verdict.Accepted)
+    × ((walk : List ℕ) × EvictionIs p (regionOf layout) v (e .reason) walk × (e .count ≡ length walk) × (length walk ≤ length before) × (after ≡ sets before 0 walk))
+EvictionSays p layout v before after (eviction.Refused f) =
+    (after ≡ before)
+    × ((judgeEviction p layout v ≡ verdict.Refused f)
+    ⊎ ((judgeEviction p layout v ≡ verdict.Accepted)
+    × ((reason : Reason) × (walk : List ℕ) × EvictionIs p (regionOf layout) v reason walk × (length before < length walk) × (f ≡ BufferTooShort (length walk)))))
+
+-- No walk that Eviction shows is longer, two entries a vertex: with room for as many it never says 10.
+abbrev pub mostShown : ℕ
+mostShown = 2 * mostVertices
+
+abbrev pub EvictionFits : Problem → List ℕ → ℕ → List ℕ → EvictionAnswer → Type 0
+EvictionFits p layout v before (eviction.Shown e) = e .count ≤ mostShown
+EvictionFits p layout v before (eviction.Refused f) = mostShown ≤ length before → judgeEviction p layout v ≡ verdict.Refused f

@@ -1,10 +1,10 @@
--- Interference, Bound and Run: the order of their checks. Each goes on only with the good case of the check before it.
+-- Interference, Bound, Run and Eviction: the order of their checks. Each goes on only with the good case of the check before it.
 use Prim.Native.Nat.{ℕ, _+_, _*_}
 use mathlib.Core.List.{List, [], _∷_}
 use mathlib.Core.Bool.{Bool, false, cond, _&&_}
 use lib.ListN.{length}
 use lib.Dec.{eqb, ltb}
-use Rattle.model.specs.declared.Refusal.the-variants.{BufferTooShort, WrongStep, BeyondBound, WalkTooLong}
+use Rattle.model.specs.declared.Refusal.the-variants.{BufferTooShort, WrongStep, BeyondBound, WalkTooLong, UnknownVertex}
 use Rattle.model.specs.declared.Verdict.{Verdict}
 use Rattle.model.specs.declared.Verdict.the-variants.{Accepted, Refused}
 use Rattle.model.specs.declared.FieldsAnswer.{FieldsAnswer}
@@ -70,3 +70,11 @@ unfoldable pub judgeRun : Problem → List ℕ → List ℕ → Verdict
 judgeRun p layout walk =
     andThen (judgeBound p layout)
     (cond (ltb walkLimit (length walk)) (Refused (WalkTooLong walkLimit)) (judgeWalk p [] 0 walk))
+
+-- 21, the vertex is unknown (its number).
+abbrev pub judgeVertex : Problem → ℕ → Verdict
+judgeVertex p v = cond (ltb v (p .«vertex_count»)) Accepted (Refused (UnknownVertex v))
+
+-- **Eviction**: as Bound through 13; then the vertex. (10 is about the walk itself.)
+unfoldable pub judgeEviction : Problem → List ℕ → ℕ → Verdict
+judgeEviction p layout v = andThen (judgeBound p layout) (judgeVertex p v)

@@ -55,7 +55,7 @@ pub struct Problem {
 // A drawn program: one graph per function, as numbers.
 pub type Drawing = [u32; drawn::END];
 
-// Why an operation refuses, each with its place. In the order of their numbers, 1 to 20.
+// Why an operation refuses, each with its place. In the order of their numbers, 1 to 21.
 pub enum Refusal {
     EndsEarly(u64),
     Misspelt(u64),
@@ -77,6 +77,7 @@ pub enum Refusal {
     Recursive(u64),
     CountPassed(u64),
     LastCalls(u64),
+    UnknownVertex(u64),
 }
 
 // What a check without a result says.
@@ -150,6 +151,25 @@ pub enum RunAnswer {
     Refused(Refusal),
 }
 
+// Why a vertex pays its load: on every visit, since the lowest function that comes between is this one; as a first load only; or never.
+pub enum Reason {
+    EveryVisit(usize),
+    FirstLoad,
+    Never,
+}
+
+// What Eviction gives beside the walk, which it leaves in a buffer that its caller lends: the reason, and the walk's number of entries.
+pub struct Eviction {
+    pub reason: Reason,
+    pub count: usize,
+}
+
+// Eviction's result.
+pub enum EvictionAnswer {
+    Shown(Eviction),
+    Refused(Refusal),
+}
+
 // A vertex of an inlined drawing: a vertex of a function's copy, and the number of the copy's first vertex. The call vertex of a copy is the one before its
 // first.
 pub struct Row {
@@ -189,6 +209,7 @@ pub fn number_of(refusal: Refusal) -> u32
         Refusal::Recursive(_) => 18,
         Refusal::CountPassed(_) => 19,
         Refusal::LastCalls(_) => 20,
+        Refusal::UnknownVertex(_) => 21,
     }
 }
 
@@ -216,7 +237,8 @@ pub fn place_of(refusal: Refusal) -> u64
         | Refusal::WalkTooLong(at)
         | Refusal::Recursive(at)
         | Refusal::CountPassed(at)
-        | Refusal::LastCalls(at) => at,
+        | Refusal::LastCalls(at)
+        | Refusal::UnknownVertex(at) => at,
     }
 }
 
@@ -245,6 +267,7 @@ pub fn placed_at(refusal: Refusal, at: u64) -> Refusal
         Refusal::Recursive(_) => Refusal::Recursive(at),
         Refusal::CountPassed(_) => Refusal::CountPassed(at),
         Refusal::LastCalls(_) => Refusal::LastCalls(at),
+        Refusal::UnknownVertex(_) => Refusal::UnknownVertex(at),
     }
 }
 

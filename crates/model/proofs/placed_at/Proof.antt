@@ -66,6 +66,9 @@ enum-told-19 c = search needs
 enum-told-20 : tie.Need-enum-told-20
 enum-told-20 c = search needs
 
+enum-told-21 : tie.Need-enum-told-21
+enum-told-21 c = search needs
+
 returns : tie.Need-returns
 returns c = sym (ap (λ (r : Refusal). placedAt r (c .before .before .args .at)) (c .enum-told .given .1))
 
@@ -126,6 +129,9 @@ returns-19 c = sym (ap (λ (r : Refusal). placedAt r (c .before .before .args .a
 returns-20 : tie.Need-returns-20
 returns-20 c = sym (ap (λ (r : Refusal). placedAt r (c .before .before .args .at)) (c .enum-told20 .given .1))
 
+returns-21 : tie.Need-returns-21
+returns-21 c = sym (ap (λ (r : Refusal). placedAt r (c .before .before .args .at)) (c .enum-told21 .given .1))
+
 pub placed-at-spec : {M : Type 1} → statement M
 placed-at-spec =
     tie.close
@@ -150,6 +156,7 @@ placed-at-spec =
     enum-told-18
     enum-told-19
     enum-told-20
+    enum-told-21
     returns
     returns-2
     returns-3
@@ -169,4 +176,5 @@ placed-at-spec =
     returns-17
     returns-18
     returns-19
-    returns-20)
+    returns-20
+    returns-21)

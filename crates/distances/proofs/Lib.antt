@@ -1,0 +1,4 @@
+pub mod Least
+pub mod Lowering
+pub mod Sweeping
+pub mod Resting

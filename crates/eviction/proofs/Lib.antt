@@ -1,0 +1,4 @@
+pub mod Reasons
+pub mod Entries
+pub mod Explaining
+pub mod Stages

@@ -1,0 +1,8 @@
+pub mod Turns
+pub mod Ahead
+pub mod Values
+pub mod Exact
+pub mod Phases
+pub mod Free
+pub mod Falling
+pub mod Known
