@@ -15,6 +15,7 @@ use Rattle.model.specs.Layouts.{needOf}
 use Rattle.model.specs.Charges.{Told, visitCharge, secondCharge, entryCharge, secondTotal, charges}
 use Rattle.model.specs.Results.{boundLimit, BoundIs, PastTheLimit}
 use Rattle.model.proofs.Cases.{by-less}
+use Rattle.lookup.proofs.Walks.{walk-below, walk-function}
 use Rattle.sound.proofs.Sound.{cycles-covered}
 use Rattle.greatest.specs.Greatest.{GreatestCapped}
 use Rattle.greatest.proofs.Weights.{charges-below}
@@ -28,7 +29,7 @@ use Rattle.charges.specs.Tests.{contestedBy, flagged, Tallied}
 use Rattle.charges.proofs.Flags.{flag-told}
 use Rattle.early.specs.Early.{earlyBy, earlyTold, EarlyTable, earlyIn, Gathered, LoadedFirst}
 use Rattle.early.proofs.Words.{word-told}
-use Rattle.early.proofs.Told.{walk-below, walk-function, flags-early, told-by-tables}
+use Rattle.early.proofs.Told.{flags-early, told-by-tables}
 use Rattle.chains.proofs.Checks.{rules-of, order-of}
 use Rattle.stays.specs.Tables.{cap}
 use Rattle.sums.proofs.Agree.{charges-agree, totals-agree}

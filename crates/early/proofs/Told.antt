@@ -1,5 +1,4 @@
 -- Tables that hold what regions may hold and the first reach of a checked problem tell which vertices are contested or early and which functions are cold.
--- Its walks stay among its vertices.
 use Prim.Native.Nat.{ℕ, _/_, _%_, _^_, _<_}
 use mathlib.Core.Path.{_≡_, sym, ap, _∙_}
 use mathlib.Core.List.{List}
@@ -9,8 +8,6 @@ use native.Mathlib.Omega.{arith}
 use lib.ListN.{getD}
 use lib.Dec.{ltb}
 use borrow.Author.Tests.{eqb-true, eq-eqb, ltb-true, lt-ltb}
-use Rattle.model.specs.declared.Edge.{Edge}
-use Rattle.model.specs.Zero.{zeroEdge}
 use Rattle.model.specs.Numbers.{problemOf}
 use Rattle.model.specs.Operations.{Checked}
 use Rattle.model.specs.Costs.{functionOf}
@@ -21,7 +18,8 @@ use Rattle.model.specs.Charges.{Told}
 use Rattle.model.specs.Results.{Member}
 use Rattle.model.proofs.Cases.{and-left}
 use Rattle.model.proofs.Lists.{index-of}
-use Rattle.lookup.proofs.Places.{facts, some-vertex, function-below, to-below}
+use Rattle.lookup.proofs.Places.{facts, function-below}
+use Rattle.lookup.proofs.Walks.{walk-below}
 use Rattle.sound.specs.Decide.{earlyTest}
 use Rattle.sound.proofs.Held.{contested-held}
 use Rattle.sound.proofs.Decide.{told}
@@ -42,18 +40,6 @@ unfolding has
 told-by-bit word g iff = (λ e. iff .0 (eqb-true (word / 2 ^ g % 2) 1 e), λ x. eq-eqb (word / 2 ^ g % 2) 1 (iff .1 x))
 
 module _ {l : List ℕ} (checked : Checked l) where
-  end-below : {u v : ℕ} → EdgeOf (problemOf l) u v → v < problemOf l .«vertex_count»
-  end-below {u} {v} member =
-      let (i, below, is) = index-of zeroEdge member in
-      omega (arith, ap (λ (e : Edge). e .to) is, to-below l (facts l checked) i below)
-
-  pub walk-below : {v : ℕ} {h : List ℕ} → Walk (EdgeOf (problemOf l)) v h → v < problemOf l .«vertex_count»
-  walk-below start = some-vertex l (facts l checked)
-  walk-below (step walk edge) = end-below edge
-
-  pub walk-function : {v : ℕ} {h : List ℕ} → Walk (EdgeOf (problemOf l)) v h → functionOf (problemOf l) v < problemOf l .«function_count»
-  walk-function {v} walk = function-below l (facts _ checked) v (walk-below walk)
-
   -- The words of a vertex and of its function have a member in common just where the vertex is contested.
   module _ (layout rivals held : List ℕ) (is-rivals : RivalTable (problemOf l) layout rivals) (is-held : HeldTable (problemOf l) rivals held)
       (v : ℕ) (below : v < problemOf l .«vertex_count») where
@@ -107,7 +93,7 @@ module _ {l : List ℕ} (checked : Checked l) where
     told-by-tables =
         told (problemOf l) layout (sharedTest rivals held (problemOf l)) (freshTest fresh (problemOf l)) (has cold)
         (record {
-          vertex = λ v h walk. walk-below walk;
+          vertex = λ v h walk. walk-below checked walk;
           contested = shared-contested layout rivals held is-rivals is-held;
           reached = λ v below. told-by-bit (getD fresh v 0) _ (is-fresh .member v (functionOf (problemOf l) v) below (function-below l (facts _ checked) v below));
           coldest = coldest;

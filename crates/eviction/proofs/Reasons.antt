@@ -17,12 +17,13 @@ use Rattle.model.specs.Interference.{since, occurs, Contested, Fresh, Early}
 use Rattle.model.specs.Evictions.{Shortest, Evicts, EvictionIs}
 use Rattle.model.specs.Results.{mostShown}
 use Rattle.lookup.proofs.Places.{facts, few-functions, few-vertices, function-below, vertex-small}
+use Rattle.lookup.proofs.Walks.{edge-below}
 use Rattle.flow.proofs.Reached.{reached}
 use Rattle.ways.specs.Ways.{noWay, steps, Falls, Distances}
 use Rattle.ways.proofs.Exact.{way-short, falls-long, falls-best}
 use Rattle.ways.proofs.Phases.{phase, arrives-way, best-shortest, phase-since, phase-fresh}
 use Rattle.ways.proofs.Free.{free-interferes, interferes-free, fresh-free}
-use Rattle.ways.proofs.Known.{edges-known, edges-small, no-function}
+use Rattle.ways.proofs.Known.{edges-small, no-function}
 use Rattle.evicting.specs.Evicting.{Comes, Lowest}
 use Rattle.eviction.specs.Showing.{Explainable}
 
@@ -42,7 +43,7 @@ module _ {l regions : List ℕ} {v : ℕ} (ready : Explainable l regions v) wher
       way-to : (h : List ℕ) → Walk (EdgeOf p) v h → Good h → steps d 0 s < noWay
       way-to h walk is = arrives-way p f g v s d (edges-small l (ready .checked)) rest low walk (good h walk .1 is)
 
-      shortest : (ws : List ℕ) → Falls p f g d s 0 ws → Shortest p Good v (0 ∷ ws)
+      shortest : (ws : List ℕ) → Falls p f g d s 0 ws → Shortest (EdgeOf p) Good v (0 ∷ ws)
       shortest ws falls =
           best-shortest p f g v s Good good ws (falls-best p f g v d (edges-small l (ready .checked)) rest ws s 0 first-there low falls)
 
@@ -53,27 +54,27 @@ module _ {l regions : List ℕ} {v : ℕ} (ready : Explainable l regions v) wher
 
   module _ (free : List ℕ) (rest : Distances p f mostFunctions v free) (g : ℕ) (lowest : Lowest p regions f free (p .«vertex_count») g) where
     -- A function that evicts is that of a vertex which comes between.
-    comes : (k : ℕ) → Evicts p (regionOf regions) v k → (u : ℕ) × (u < p .«vertex_count») × (functionOf p u ≡ k) × Comes p regions f free u
+    comes : (k : ℕ) → Evicts (functionOf p) (EdgeOf p) (regionOf regions) v k → (u : ℕ) × (u < p .«vertex_count») × (functionOf p u ≡ k) × Comes p regions f free u
     comes k (interferes, shares) =
         let (u, (w, edge), is, way) =
         interferes-free p mostFunctions v free (edges-small l (ready .checked)) (no-function l (ready .checked)) rest k interferes in (
           u,
-          edges-known l (ready .checked) u w edge .0,
+          edge-below (ready .checked) edge .0,
           is,
           record { way = way; other = λ e. interferes .0 (sym is ∙ e); shares = ap (regionOf regions) is ∙ shares },
         )
 
-    pub named-least : (k : ℕ) → Evicts p (regionOf regions) v k → g ≤ k
+    pub named-least : (k : ℕ) → Evicts (functionOf p) (EdgeOf p) (regionOf regions) v k → g ≤ k
     named-least k evicts = let (u, below, is, between) = comes k evicts in omega (arith, lowest .least u below between)
 
-    pub named-evicts : g < mostFunctions → Evicts p (regionOf regions) v g
+    pub named-evicts : g < mostFunctions → Evicts (functionOf p) (EdgeOf p) (regionOf regions) v g
     named-evicts some = at (lowest .one)
       where
-        at : (g ≡ mostFunctions) ⊎ ((u : ℕ) × (u < p .«vertex_count») × (g ≡ functionOf p u) × Comes p regions f free u) → Evicts p (regionOf regions) v g
+        at : (g ≡ mostFunctions) ⊎ ((u : ℕ) × (u < p .«vertex_count») × (g ≡ functionOf p u) × Comes p regions f free u) → Evicts (functionOf p) (EdgeOf p) (regionOf regions) v g
         at (inl none) = absurd (omega arith)
         at (inr (u, below, is, between)) =
             let (h, walk) = reached l (ready .checked) u below in
-            subst (Evicts p (regionOf regions) v) (sym is) (
+            subst (Evicts (functionOf p) (EdgeOf p) (regionOf regions) v) (sym is) (
               free-interferes p mostFunctions v free (edges-small l (ready .checked)) (no-function l (ready .checked)) rest u
                   (vertex-small l (facts l (ready .checked)) u below) h walk (between .way) (between .other),
               between .shares,
@@ -94,7 +95,7 @@ module _ {l regions : List ℕ} {v : ℕ} (ready : Explainable l regions v) wher
 
     -- 2: vertex 0 leads to v past no vertex of its function.
     pub first-load : mostFunctions ≤ g → steps free 0 1 < noWay → (ws : List ℕ) → Falls p f mostFunctions free 1 0 ws →
-        EvictionIs p (regionOf regions) v FirstLoad (0 ∷ ws)
+        EvictionIs p regions v FirstLoad (0 ∷ ws)
     first-load none way ws falls = (
       (not-contested none, fresh .0 way),
       shortest mostFunctions 1 free rest (omega arith) (λ h. occurs (functionOf p) f h ≡ false)
@@ -102,7 +103,7 @@ module _ {l regions : List ℕ} {v : ℕ} (ready : Explainable l regions v) wher
     )
 
     -- 3: it does not.
-    pub never : mostFunctions ≤ g → noWay ≤ steps free 0 1 → EvictionIs p (regionOf regions) v Never []
+    pub never : mostFunctions ≤ g → noWay ≤ steps free 0 1 → EvictionIs p regions v Never []
     never none no-way = (not-contested none, λ can. omega (arith, fresh .1 can), refl)
 
     -- 1: by numbers of steps where g begins phase 1.
@@ -115,7 +116,7 @@ module _ {l regions : List ℕ} {v : ℕ} (ready : Explainable l regions v) wher
           let (h, walk, member) = named-evicts some .0 .1 in
           way-to g 0 d by-g (omega arith) (λ k. List·Memᴰ g (since (functionOf p) f k)) since-g h walk member
 
-      pub every-visit : (ws : List ℕ) → Falls p f g d 0 0 ws → EvictionIs p (regionOf regions) v (EveryVisit g) (0 ∷ ws)
+      pub every-visit : (ws : List ℕ) → Falls p f g d 0 0 ws → EvictionIs p regions v (EveryVisit g) (0 ∷ ws)
       every-visit ws falls = (
         named-evicts some,
         named-least,

@@ -16,7 +16,9 @@ use Rattle.model.specs.Numbers.{problemOf}
 use Rattle.model.specs.Operations.{Checked}
 use Rattle.model.specs.Graph.{andThen}
 use Rattle.model.specs.Layouts.{regionOf}
-use Rattle.model.specs.Evictions.{EvictionIs}
+use Rattle.model.specs.Costs.{functionOf}
+use Rattle.model.specs.Walks.{EdgeOf}
+use Rattle.model.specs.Evictions.{EvictionBy, EvictionIs}
 use Rattle.model.specs.Verdicts.{judgeBound, judgeVertex, judgeEviction}
 use Rattle.model.specs.Results.{mostShown, EvictionSays, EvictionFits}
 use Rattle.model.specs.Outcomes.{evictionOutcome, Evicted}
@@ -51,13 +53,13 @@ module _ (p : Problem) (layout : List ℕ) (v : ℕ) where
       accepted = vertex-judged ∙ known
 
       -- What explains the vertex by its regions, filled in, explains it by the layout.
-      alike : (reason : Reason) (walk : List ℕ) → EvictionIs p (regionOf regions) v reason walk → EvictionIs p (regionOf layout) v reason walk
-      alike reason walk = subst (λ (region : ℕ → ℕ). EvictionIs p region v reason walk) same
+      alike : (reason : Reason) (walk : List ℕ) → EvictionIs p regions v reason walk → EvictionIs p layout v reason walk
+      alike reason walk = subst (λ (region : ℕ → ℕ). EvictionBy (functionOf p) (EdgeOf p) region v reason walk) same
 
       pub explained : (r : EvictionAnswer) → Explained p regions v before after r → Says before after r
       unfolding Lent
       explained (Shown e) (reason, walk, is, few, (is-reason, is-count, room, stored)) = (
-        (accepted, (walk, subst (λ (x : Reason). EvictionIs p (regionOf layout) v x walk) (sym is-reason) (alike reason walk is), is-count, room, stored)),
+        (accepted, (walk, subst (λ (x : Reason). EvictionIs p layout v x walk) (sym is-reason) (alike reason walk is), is-count, room, stored)),
         omega arith,
       )
       explained (Refused f) (reason, walk, is, few, (kept, short, is-f)) =

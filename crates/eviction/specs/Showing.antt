@@ -11,7 +11,6 @@ use Rattle.model.specs.declared.EvictionAnswer.{EvictionAnswer}
 use Rattle.model.specs.declared.EvictionAnswer.the-variants.{Shown, Refused}
 use Rattle.model.specs.Numbers.{problemOf}
 use Rattle.model.specs.Operations.{Checked}
-use Rattle.model.specs.Layouts.{regionOf}
 use Rattle.model.specs.Evictions.{EvictionIs}
 use Rattle.model.specs.Results.{mostShown}
 use Rattle.regions.specs.Regions.{KnownRegions}
@@ -33,4 +32,4 @@ pub record Explainable (l regions : List ℕ) (v : ℕ) : Type 0 where
 
 abbrev pub Explained : Problem → List ℕ → ℕ → List ℕ → List ℕ → EvictionAnswer → Type 0
 Explained p regions v before after r =
-    (reason : Reason) × (walk : List ℕ) × EvictionIs p (regionOf regions) v reason walk × (length walk ≤ mostShown) × Lent reason walk before after r
+    (reason : Reason) × (walk : List ℕ) × EvictionIs p regions v reason walk × (length walk ≤ mostShown) × Lent reason walk before after r

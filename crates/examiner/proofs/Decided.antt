@@ -1,4 +1,4 @@
--- The contracts of the exports of Interference and Bound leave nothing open: no two outcomes meet them.
+-- The contracts of the exports of Interference, Bound and Eviction leave nothing open: no two outcomes meet them.
 use Prim.Native.Nat.{ℕ, _^_, _<_}
 use mathlib.Core.Path.{_≡_, sym, ap, _∙_}
 use mathlib.Core.List.{List}
@@ -7,10 +7,11 @@ use Rattle.model.specs.declared.ReadAnswer.{ReadAnswer}
 use Rattle.model.specs.declared.ReadAnswer.the-variants as read
 use Rattle.model.specs.Operations.{readFile}
 use Rattle.bound.proofs.Decided.{bound-decided}
+use Rattle.eviction.proofs.Decided.{eviction-decided}
 use Rattle.interference.proofs.Decided.{interference-decided}
-use Rattle.model.specs.Outcomes.{Outcome, refusalOutcome, interferenceOutcome, boundOutcome, FillsWords, IsBounded}
+use Rattle.model.specs.Outcomes.{Outcome, refusalOutcome, interferenceOutcome, boundOutcome, evictionOutcome, FillsWords, IsBounded, Evicted}
 use Rattle.outcomes.specs.Outcomes.{status, answerAfter, Right, ByRead}
-use Rattle.examiner.specs.Exports.{BoundTold, InterferenceTold}
+use Rattle.examiner.specs.Exports.{BoundTold, InterferenceTold, EvictionTold}
 
 -- What is told of right outcomes is the same, where the outcomes are.
 told-once : (Says Says′ : Outcome → Type 0) → ((o o′ : Outcome) → Says o → Says′ o′ → o ≡ o′) → (before after after′ : List ℕ) (r r′ : ℕ) →
@@ -30,6 +31,13 @@ pub bound-export-decided : (file layout before after after′ : List ℕ) (r r�
 bound-export-decided file layout =
     told-once (BoundTold file layout) (BoundTold file layout) (λ o o′. bounded-once layout o o′ (readFile file))
 
+-- A lent buffer too, where outcomes and what it holds at the end are decided together.
+told-both : (Says : List ℕ → Outcome → Type 0) (end end′ : List ℕ) → ((o o′ : Outcome) → Says end o → Says end′ o′ → (o ≡ o′) × (end ≡ end′)) →
+    (before after after′ : List ℕ) (r r′ : ℕ) → Right (Says end) before after r → Right (Says end′) before after′ r′ → (r ≡ r′) × (after ≡ after′) × (end ≡ end′)
+told-both Says end end′ once before after after′ r r′ a b =
+    let t = told-once (Says end) (Says end′) (λ o o′ x y. once o o′ x y .0) before after after′ r r′ a b in
+    (t .0, t .1, once (a .outcome) (b .outcome) (a .says) (b .says) .1)
+
 -- Words of 32 bits at the end.
 module _ (words end end′ : List ℕ) (small : (k : ℕ) → getD end k 0 < 2 ^ 32) (small′ : (k : ℕ) → getD end′ k 0 < 2 ^ 32) where
   filled-once : (o o′ : Outcome) (a : ReadAnswer) → ByRead a (λ p. FillsWords p words end o) (λ f. (o ≡ refusalOutcome f) × (end ≡ words)) →
@@ -39,12 +47,19 @@ module _ (words end end′ : List ℕ) (small : (k : ℕ) → getD end k 0 < 2 ^
   filled-once o o′ (read.Refused f) (is, kept) (is′, kept′) = (is ∙ sym is′, kept ∙ sym kept′)
 
   module _ (file : List ℕ) where
-    once : (o o′ : Outcome) → InterferenceTold file words end o → InterferenceTold file words end′ o′ → (o ≡ o′) × (end ≡ end′)
-    once o o′ = filled-once o o′ (readFile file)
-
     pub interference-export-decided : (before after after′ : List ℕ) (r r′ : ℕ) →
         Right (InterferenceTold file words end) before after r → Right (InterferenceTold file words end′) before after′ r′ →
         (r ≡ r′) × (after ≡ after′) × (end ≡ end′)
-    interference-export-decided before after after′ r r′ a b =
-        let t = told-once (InterferenceTold file words end) (InterferenceTold file words end′) (λ o o′ x y. once o o′ x y .0) before after after′ r r′ a b in
-        (t .0, t .1, once (a .outcome) (b .outcome) (a .says) (b .says) .1)
+    interference-export-decided = told-both (InterferenceTold file words) end end′ (λ o o′. filled-once o o′ (readFile file))
+
+module _ (layout : List ℕ) (v : ℕ) (walk end end′ : List ℕ) where
+  evicted-once : (o o′ : Outcome) (a : ReadAnswer) → ByRead a (λ p. Evicted p layout v walk end o) (λ f. (o ≡ refusalOutcome f) × (end ≡ walk)) →
+      ByRead a (λ p. Evicted p layout v walk end′ o′) (λ f. (o′ ≡ refusalOutcome f) × (end′ ≡ walk)) → (o ≡ o′) × (end ≡ end′)
+  evicted-once o o′ (read.Accepted p) (r, says, is) (r′, says′, is′) =
+      let d = eviction-decided p layout v walk end end′ r r′ says says′ in (is ∙ ap evictionOutcome (d .0) ∙ sym is′, d .1)
+  evicted-once o o′ (read.Refused f) (is, kept) (is′, kept′) = (is ∙ sym is′, kept ∙ sym kept′)
+
+  pub eviction-export-decided : (file before after after′ : List ℕ) (r r′ : ℕ) →
+      Right (EvictionTold file layout v walk end) before after r → Right (EvictionTold file layout v walk end′) before after′ r′ →
+      (r ≡ r′) × (after ≡ after′) × (end ≡ end′)
+  eviction-export-decided file = told-both (EvictionTold file layout v walk) end end′ (λ o o′. evicted-once o o′ (readFile file))

@@ -7,7 +7,7 @@ use Rattle.model.specs.Numbers.{problemOf}
 use Rattle.model.specs.Operations.{readFile, writtenBuffer}
 use Rattle.model.specs.Results.{runRegions}
 use Rattle.model.specs.Inlined.{inlineDrawing}
-use Rattle.model.specs.Outcomes.{Outcome, Results, refusalOutcome, writeSays, runSays, FillsWords, IsBounded}
+use Rattle.model.specs.Outcomes.{Outcome, Results, refusalOutcome, writeSays, runSays, FillsWords, IsBounded, Evicted}
 use Rattle.outcomes.specs.Outcomes.{counts, onRead, ByRead, onInline}
 
 -- **examiner_read**
@@ -49,3 +49,7 @@ inlineTold drawing room = onInline (inlineDrawing drawing) (λ p. writeSays p ro
 
 abbrev pub inlineOut : List ℕ → List ℕ → List ℕ
 inlineOut drawing out = onInline (inlineDrawing drawing) (λ p. writtenBuffer p out) (λ f. out)
+
+-- **examiner_eviction**, where `walk` holds `after` at the end: what Eviction says of the problem; on Read's refusal the walk is as it was.
+abbrev pub EvictionTold : List ℕ → List ℕ → ℕ → List ℕ → List ℕ → Outcome → Type 0
+EvictionTold file layout v walk after o = ByRead (readFile file) (λ p. Evicted p layout v walk after o) (λ f. (o ≡ refusalOutcome f) × (after ≡ walk))

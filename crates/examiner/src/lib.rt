@@ -8,7 +8,7 @@ ghost use mathlib.Core.Path.{_≡_};
 ghost use lib.ListN.{length};
 ghost use Rattle.model.specs.Operations.{writtenBuffer};
 ghost use Rattle.outcomes.specs.Outcomes.{status, answerAfter, Right};
-ghost use Rattle.examiner.specs.Exports.{readTold, writeTold, writeOut, fieldsProblem, fieldsTold, InterferenceTold, BoundTold, runTold, runHeld, inlineTold, inlineOut};
+ghost use Rattle.examiner.specs.Exports.{readTold, writeTold, writeOut, fieldsProblem, fieldsTold, InterferenceTold, BoundTold, runTold, runHeld, inlineTold, inlineOut, EvictionTold};
 
 // **Read**: the numbers of functions, vertices, edges and loops.
 #[no_mangle]
@@ -119,4 +119,25 @@ pub extern "C" fn examiner_inline(drawing: &Drawing, out: &mut [u8], answer: &mu
         return outcomes::refuse(model::refusal_in(verdict), answer);
     };
     outcomes::tell_written(file::write_checked(&numbers, out), answer)
+}
+
+// **Eviction** of a vertex in the problem that the file holds, with a layout: the walk's entries, the reason's number and the function that it names, and the walk
+// at the front of `walk`.
+#[no_mangle]
+pub extern "C" fn examiner_eviction(
+    file: &[u8],
+    layout: &[u8],
+    vertex: u64,
+    walk: &mut [u32],
+    answer: &mut Answer,
+) -> u32
+    ensures { λ r. ⌜ Right (EvictionTold (now (file .entry)) (now (layout .entry)) vertex (now (walk .entry)) (now (walk .exit))) (now (answer .entry)) (now (answer .exit)) r ⌝ }
+{
+    let mut numbers = [0u64; places::END];
+    let verdict = file::read_numbers(file, &mut numbers);
+    let Verdict::Accepted = verdict else {
+        return outcomes::refuse(model::refusal_in(verdict), answer);
+    };
+    let evicted = eviction::eviction_checked(&numbers, layout, vertex, walk);
+    outcomes::tell_evicted(evicted, answer)
 }

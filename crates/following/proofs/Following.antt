@@ -10,10 +10,11 @@ use Rattle.model.specs.Costs.{functionOf}
 use Rattle.model.specs.Places.{mostVertices}
 use Rattle.model.proofs.Lists.{stored-behind}
 use Rattle.lookup.proofs.Places.{facts, some-vertex, vertex-small}
+use Rattle.lookup.proofs.Walks.{edge-below}
 use Rattle.ways.specs.Ways.{phaseAfter, noWay, steps, turn, Nearest, Falls}
 use Rattle.ways.proofs.Turns.{first-steps}
 use Rattle.ways.proofs.Exact.{phase-low, back}
-use Rattle.ways.proofs.Known.{edges-known, edges-small}
+use Rattle.ways.proofs.Known.{edges-small}
 use Rattle.following.specs.Following.{Seekable, Lowest, Followable, Followed}
 
 module _ {l begins : List ℕ} {f g : ℕ} {d : List ℕ} {phase room : ℕ} (ready : Followable l begins f g d phase room) (base : List ℕ) where
@@ -82,7 +83,7 @@ module _ {l begins : List ℕ} {f g : ℕ} {d : List ℕ} {phase room : ℕ} (re
 
         pub follow-on : Following (set walk (n + 1) w) w t (left - 1) (n + 1)
         follow-on = record {
-          there = edges-known l (ready .leading .checked) u w (lowest .edge) .1;
+          there = edge-below (ready .leading .checked) (lowest .edge) .1;
           low = rw is-t (phase-low f g (functionOf (problemOf l) u) s (following .low));
           number = lowest .has;
           whole = omega (arith, following .whole);

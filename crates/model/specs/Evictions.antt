@@ -10,6 +10,7 @@ use Rattle.model.specs.declared.Reason.the-variants.{EveryVisit, FirstLo
 use Rattle.model.specs.declared.Problem.{Problem}
 use Rattle.model.specs.Costs.{functionOf}
 use Rattle.model.specs.Walks.{EdgeOf, Walk}
+use Rattle.model.specs.Layouts.{regionOf}
 use Rattle.model.specs.Interference.{since, occurs, Interferes, Contested, Fresh, Early}
 
 -- A reason's number, and its values: the function named.
@@ -35,25 +36,26 @@ Ahead xs ys = (length xs < length ys) ⊎ ((length xs ≡ length ys) × NotBehin
 
 -- Of all walks that arrive at v after good histories, this is the one with the fewest entries, then with the smallest number at the first difference. It is
 -- in its own order: vertex 0 first, v last. Loop bounds play no part.
-pub record Shortest (p : Problem) (Good : List ℕ → Type 0) (v : ℕ) (walk : List ℕ) : Type 0 where
+pub record Shortest (Edge : ℕ → ℕ → Type 0) (Good : List ℕ → Type 0) (v : ℕ) (walk : List ℕ) : Type 0 where
   pub history : List ℕ
-  pub arrives : Walk (EdgeOf p) v history
+  pub arrives : Walk Edge v history
   pub good : Good history
   pub is : walk ≡ reverse (v ∷ history)
-  pub ahead : (h : List ℕ) → Walk (EdgeOf p) v h → Good h → Ahead walk (reverse (v ∷ h))
+  pub ahead : (h : List ℕ) → Walk Edge v h → Good h → Ahead walk (reverse (v ∷ h))
 
--- `region` is the region of a function.
-module _ (p : Problem) (region : ℕ → ℕ) (v : ℕ) where
+-- `fn` is the function of a vertex, `Edge` the edges, `region` the region of a function.
+module _ (fn : ℕ → ℕ) (Edge : ℕ → ℕ → Type 0) (region : ℕ → ℕ) (v : ℕ) where
   -- g is in the interference set of v and its own function, and has that function's region. (v is contested if there is one.)
   abbrev pub Evicts : ℕ → Type 0
-  Evicts g = Interferes (functionOf p) (EdgeOf p) v (functionOf p v) g × (region g ≡ region (functionOf p v))
+  Evicts g = Interferes fn Edge v (fn v) g × (region g ≡ region (fn v))
 
   -- The true reason, with the walk that shows it. 1: the lowest such function, and a walk that visits it after the latest earlier visit to the vertex's own
   -- function, or at all. 2: not contested, and a walk with no earlier visit to its own function. 3: neither, and no walk.
-  abbrev pub EvictionIs : Reason → List ℕ → Type 0
-  EvictionIs (EveryVisit g) walk =
-      Evicts g × ((k : ℕ) → Evicts k → g ≤ k) × Shortest p (λ h. List·Memᴰ g (since (functionOf p) (functionOf p v) h)) v walk
-  EvictionIs FirstLoad walk =
-      Early (functionOf p) (EdgeOf p) region v × Shortest p (λ h. occurs (functionOf p) (functionOf p v) h ≡ false) v walk
-  EvictionIs Never walk =
-      (Contested (functionOf p) (EdgeOf p) region v → ⊥) × (Fresh (functionOf p) (EdgeOf p) (functionOf p v) v → ⊥) × (walk ≡ [])
+  abbrev pub EvictionBy : Reason → List ℕ → Type 0
+  EvictionBy (EveryVisit g) walk = Evicts g × ((k : ℕ) → Evicts k → g ≤ k) × Shortest Edge (λ h. List·Memᴰ g (since fn (fn v) h)) v walk
+  EvictionBy FirstLoad walk = Early fn Edge region v × Shortest Edge (λ h. occurs fn (fn v) h ≡ false) v walk
+  EvictionBy Never walk = (Contested fn Edge region v → ⊥) × (Fresh fn Edge (fn v) v → ⊥) × (walk ≡ [])
+
+-- The reason for a vertex under a layout.
+abbrev pub EvictionIs : Problem → List ℕ → ℕ → Reason → List ℕ → Type 0
+EvictionIs p layout = EvictionBy (functionOf p) (EdgeOf p) (regionOf layout)

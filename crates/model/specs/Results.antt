@@ -26,7 +26,7 @@ use Rattle.model.specs.Limits.{mostRegions}
 use Rattle.model.specs.Numbers.{table}
 use Rattle.model.specs.Costs.{functionOf, howMany}
 use Rattle.model.specs.Walks.{EdgeOf, lastVertex, Lawful, Greatest, Smaller}
-use Rattle.model.specs.Layouts.{regionOf, needOf}
+use Rattle.model.specs.Layouts.{needOf}
 use Rattle.model.specs.Interference.{Interferes}
 use Rattle.model.specs.Charges.{Told, visitCharge, firstLoads, secondTotal, charges}
 use Rattle.model.specs.Runs.{cycles, loads, heldAfter}
@@ -112,12 +112,12 @@ runRegions p layout walk regions = regionsAfter (judgeRun p layout walk) p layou
 abbrev pub EvictionSays : Problem → List ℕ → ℕ → List ℕ → List ℕ → EvictionAnswer → Type 0
 EvictionSays p layout v before after (eviction.Shown e) =
     (judgeEviction p layout v ≡ verdict.Accepted)
-    × ((walk : List ℕ) × EvictionIs p (regionOf layout) v (e .reason) walk × (e .count ≡ length walk) × (length walk ≤ length before) × (after ≡ sets before 0 walk))
+    × ((walk : List ℕ) × EvictionIs p layout v (e .reason) walk × (e .count ≡ length walk) × (length walk ≤ length before) × (after ≡ sets before 0 walk))
 EvictionSays p layout v before after (eviction.Refused f) =
     (after ≡ before)
     × ((judgeEviction p layout v ≡ verdict.Refused f)
     ⊎ ((judgeEviction p layout v ≡ verdict.Accepted)
-    × ((reason : Reason) × (walk : List ℕ) × EvictionIs p (regionOf layout) v reason walk × (length before < length walk) × (f ≡ BufferTooShort (length walk)))))
+    × ((reason : Reason) × (walk : List ℕ) × EvictionIs p layout v reason walk × (length before < length walk) × (f ≡ BufferTooShort (length walk)))))
 
 -- No walk that Eviction shows is longer, two entries a vertex: with room for as many it never says 10.
 abbrev pub mostShown : ℕ

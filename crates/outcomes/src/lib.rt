@@ -1,16 +1,20 @@
 // How an export's caller is told: the number returned is 0, and `answer` begins with the result's numbers; or it is the refusal's number, and answer[0] is
 // the refusal's place.
 use model::BoundAnswer;
+use model::EvictionAnswer;
 use model::InterferenceAnswer;
 use model::Numbers;
+use model::Reason;
 use model::Refusal;
 use model::RunAnswer;
 use model::WriteAnswer;
 use model::places;
 ghost use mathlib.Core.Path.{_≡_};
 ghost use mathlib.Core.List.{[], _∷_};
+ghost use lib.Seq.{sets};
 ghost use Rattle.model.specs.Numbers.{problemOf};
-ghost use Rattle.model.specs.Outcomes.{Results, refusalOutcome, writeOutcome, interferenceOutcome, boundOutcome, runOutcome};
+ghost use Rattle.model.specs.Evictions.{reasonNumber, reasonValues};
+ghost use Rattle.model.specs.Outcomes.{Results, refusalOutcome, writeOutcome, interferenceOutcome, boundOutcome, runOutcome, evictionOutcome};
 ghost use Rattle.outcomes.specs.Outcomes.{status, answerAfter, counts};
 
 // What a caller lends for the numbers of an answer.
@@ -101,6 +105,39 @@ pub fn tell_ran(ran: RunAnswer, answer: &mut Answer) -> u32
         RunAnswer::Ran(run) => {
             answer[0] = run.cycles.0;
             answer[1] = run.loads;
+            0
+        }
+    }
+}
+
+// Tells a reason, from answer[1] on: its number, and the function that it names.
+fn tell_reason(reason: Reason, answer: &mut Answer)
+    ensures { λ _. ⌜ now (answer .exit) ≡ sets (now (answer .entry)) 1 (reasonNumber reason ∷ reasonValues reason) ⌝ }
+{
+    match reason {
+        Reason::EveryVisit(function) => {
+            answer[1] = 1;
+            answer[2] = function as u64;
+        }
+        Reason::FirstLoad => {
+            answer[1] = 2;
+        }
+        Reason::Never => {
+            answer[1] = 3;
+        }
+    }
+}
+
+// Tells what Eviction gave.
+pub fn tell_evicted(evicted: EvictionAnswer, answer: &mut Answer) -> u32
+    ensures { λ r. ⌜ r ≡ status (evictionOutcome evicted) ⌝ ∗ ⌜ now (answer .exit) ≡ answerAfter (evictionOutcome evicted) (now (answer .entry)) ⌝ }
+{
+    match evicted {
+        EvictionAnswer::Refused(refusal) => refuse(refusal, answer),
+        EvictionAnswer::Shown(eviction) => {
+            let reason = eviction.reason;
+            answer[0] = eviction.count as u64;
+            tell_reason(reason, answer);
             0
         }
     }

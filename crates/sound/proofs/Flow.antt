@@ -22,7 +22,7 @@ module _ (fn : ℕ → ℕ) where
       at false q i = (eqb-false (fn u) f q, List·Memᴰ·cases-cons i)
 
   -- f was not visited in `u ∷ h`: u is not of f, and f was not visited in h.
-  occurs-cases : (f u : ℕ) (h : List ℕ) → occurs fn f (u ∷ h) ≡ false → (fn u ≡ f → ⊥) × (occurs fn f h ≡ false)
+  pub occurs-cases : (f u : ℕ) (h : List ℕ) → occurs fn f (u ∷ h) ≡ false → (fn u ≡ f → ⊥) × (occurs fn f h ≡ false)
   unfolding occurs
   occurs-cases f u h o = at (eqb (fn u) f) refl o
     where

@@ -10,10 +10,10 @@ use native.Mathlib.Omega.{arith}
 use lib.Dec.{eqb}
 use borrow.Author.Tests.{eqb-true, eqb-false, eq-eqb, ne-eqb}
 use Rattle.model.specs.Walks.{Walk, start, step}
-use Rattle.model.specs.Interference.{since, Contested}
-use Rattle.model.specs.Runs.{held}
+use Rattle.model.specs.Interference.{since, occurs, Contested}
+use Rattle.model.specs.Runs.{held, isHeld}
 use Rattle.sound.specs.Held.{Holds}
-use Rattle.sound.proofs.Flow.{since-cases}
+use Rattle.sound.proofs.Flow.{since-cases, occurs-cases}
 
 same-held : {f g : ℕ} → some f ≡ some g → f ≡ g
 same-held e = cc
@@ -50,7 +50,7 @@ module _ (fn region : ℕ → ℕ) where
       at (inr (other, x)) ih = let (m, same) = ih x in (rw (ne-eqb (fn u) f (λ q. other (ap region q))) (List·Memᴰ·tail m), same)
 
   -- Where a function of the region was visited since f, another one than f is held.
-  since-held :
+  pub since-held :
       (f g : ℕ) (h : List ℕ) → region g ≡ region f → List·Memᴰ g (since fn f h) →
       (x : ℕ) × (x ≡ f → ⊥) × (held fn region (region f) h ≡ some x)
   unfolding since held
@@ -64,6 +64,18 @@ module _ (fn region : ℕ → ℕ) where
       at true q ne i ih = (fn u, ne, refl)
       at false q ne (inl e) ih = absurd (eqb-false (region (fn u)) (region f) q (ap region (sym e) ∙ same))
       at false q ne (inr j) ih = ih j
+
+  -- A function that was not visited is held nowhere.
+  pub unvisited-unheld : (f r : ℕ) (h : List ℕ) → occurs fn f h ≡ false → isHeld fn region (held fn region r h) f ≡ false
+  unfolding held
+  unvisited-unheld f r [] o = refl
+  unvisited-unheld f r (u ∷ h) o = let (ne, before) = occurs-cases fn f u h o in at (eqb (region (fn u)) r) ne (unvisited-unheld f r h before)
+    where
+      at :
+          (b : Bool) → (fn u ≡ f → ⊥) → isHeld fn region (held fn region r h) f ≡ false →
+          isHeld fn region (cond b (some (fn u)) (held fn region r h)) f ≡ false
+      at true ne ih = ne-eqb (fn u) f ne
+      at false ne ih = ih
 
   module _ (Edge : ℕ → ℕ → Type 0) where
     -- v is contested exactly if some walk arrives with another function held in the region of v's function.

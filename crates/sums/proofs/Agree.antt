@@ -15,7 +15,7 @@ use Rattle.model.proofs.Search.{lowest-alike}
 use Rattle.greatest.specs.Greatest.{GreatestCapped}
 use Rattle.greatest.proofs.Weights.{weights-plain, weights-same}
 use Rattle.greatest.proofs.Exact.{capped-same}
-use Rattle.early.proofs.Told.{walk-below}
+use Rattle.lookup.proofs.Walks.{walk-below}
 
 module _ {l : List ℕ} (ok : Checked l) (cap : ℕ) {c c′ : ℕ → Bool} (same : (v : ℕ) → v < problemOf l .«vertex_count» → c v ≡ c′ v) where
   visit-agrees : (v : ℕ) → v < problemOf l .«vertex_count» → visitCharge (problemOf l) c v ≡ visitCharge (problemOf l) c′ v

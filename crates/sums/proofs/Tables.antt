@@ -20,7 +20,7 @@ use Rattle.chains.specs.Chains.{LoopChains}
 use Rattle.stays.specs.Tables.{cap, Capped, byVertex, byHeader}
 use Rattle.charges.specs.Tests.{flagged, Charged}
 use Rattle.early.specs.Early.{earlyIn, EarlyApart}
-use Rattle.early.proofs.Told.{walk-below}
+use Rattle.lookup.proofs.Walks.{walk-below}
 use Rattle.second.specs.Second.{SecondFlags, EntriesCharged}
 use Rattle.second.proofs.Flags.{second-charged}
 

@@ -5,7 +5,6 @@ use mathlib.Core.List.{List, [], _∷_, reverse}
 use mathlib.Core.Logic.{_⊎_, inl, inr}
 use native.Mathlib.Omega.{arith}
 use lib.ListN.{length}
-use Rattle.model.specs.declared.Problem.{Problem}
 use Rattle.model.specs.Evictions.{NotBehind, Ahead, Shortest}
 
 neither-behind : (xs ys : List ℕ) → length xs ≡ length ys → NotBehind xs ys → NotBehind ys xs → xs ≡ ys
@@ -28,8 +27,8 @@ pub ahead-more : (x : ℕ) (xs ys : List ℕ) → Ahead xs ys → Ahead (x ∷ x
 ahead-more x xs ys (inl fewer) = inl (omega arith)
 ahead-more x xs ys (inr (long, a)) = inr (omega arith, inr (refl, a))
 
-pub shortest-once : (p : Problem) (Good : List ℕ → Type 0) (v : ℕ) (xs ys : List ℕ) → Shortest p Good v xs → Shortest p Good v ys → xs ≡ ys
-shortest-once p Good v xs ys a b =
+pub shortest-once : (Edge : ℕ → ℕ → Type 0) (Good : List ℕ → Type 0) (v : ℕ) (xs ys : List ℕ) → Shortest Edge Good v xs → Shortest Edge Good v ys → xs ≡ ys
+shortest-once Edge Good v xs ys a b =
     ahead-both xs ys
     (subst (Ahead xs) (sym (b .is)) (a .ahead (b .history) (b .arrives) (b .good)))
     (subst (Ahead ys) (sym (a .is)) (b .ahead (a .history) (a .arrives) (a .good)))

@@ -44,7 +44,7 @@ module _ (p : Problem) (f g : ℕ) where
 
     -- Where the good histories are those that arrive in phase 1, the best way is the shortest walk.
     pub best-shortest : (Good : List ℕ → Type 0) → ((h : List ℕ) → Walk (EdgeOf p) v h → (phase s h ≡ 1) ↔ Good h) → (ws : List ℕ) → Best p f g v s 0 ws →
-        Shortest p Good v (0 ∷ ws)
+        Shortest (EdgeOf p) Good v (0 ∷ ws)
     best-shortest Good good ws best =
         let (h, walk, arrives, is) = along ws 0 [] start (best .goes) in
         record {
