@@ -8,13 +8,15 @@
  *
  * RESULTS
  *   Each function returns 0, or the number of a refusal with its place in answer[0]. Places of `answer` that a result does not use
- *   keep their values. On a refusal all other lent memory keeps its values too: `out`, `words`, `held` and answer[1] to answer[3].
+ *   keep their values. On a refusal all other lent memory keeps its values too: `out`, `words`, `held`, examiner_eviction's `walk` and
+ *   answer[1] to answer[3].
  *
  * POINTERS
  *   - A parameter NAME with NAME_length is a slice: a pointer to the first of NAME_length values. `answer`, `held`, `fields` and
  *     `drawing` have a fixed number of places, and are never null.
  *   - A pointer is aligned for its type. It is null only together with length 0.
- *   - No two parameters overlap where one of them is written to (`out`, `words`, `held`, `answer`).
+ *   - No two parameters overlap where one of them is written to (`out`, `words`, `held`, `answer`, and the `walk` of
+ *     examiner_eviction).
  *   - Nothing is kept after the return, and nothing is allocated. Calls from several threads need no lock as long as nothing writes
  *     to memory that is lent to a call.
  *
@@ -33,7 +35,7 @@
  *     8  WrongEdge           a wrong edge                                     place: the lowest edge
  *     9  NoEdgeBack          a loop with no edge back to its header           place: the lowest loop
  *   in what is lent
- *    10  BufferTooShort      a buffer is too short                            place: bytes, or words, needed
+ *    10  BufferTooShort      a buffer is too short                            place: bytes, words or entries needed
  *   in the layout
  *    11  LayoutTooLong       longer than the list of functions                place: the number of functions
  *    12  UnknownRegion       a region above 31                                place: the lowest function
@@ -52,6 +54,8 @@
  *    19  CountPassed         the one problem has too many vertices, edges or
  *                            loops                                            place: 0
  *    20  LastCalls           a graph's last vertex calls                      place: the lowest function
+ *   in the vertex asked for
+ *    21  UnknownVertex       not below the number of vertices                 place: its number
  */
 #ifndef EXAMINER_H
 #define EXAMINER_H
@@ -91,9 +95,12 @@ extern "C" {
 /* The places of `drawing`. */
 #define EXAMINER_DRAWING 44194
 
-/* The greatest bound that is given, and the greatest length of a walk. */
+/* The greatest bound that is given, and the greatest length of a walk that is run. */
 #define EXAMINER_MOST_BOUND UINT64_C(1000000000000000000)
 #define EXAMINER_MOST_ENTRIES 1000000
+
+/* No walk that examiner_eviction writes has more entries: a buffer of so many is never too short. */
+#define EXAMINER_MOST_SHOWN 256
 
 /*
  * Read: judges a problem file.
@@ -152,6 +159,24 @@ uint32_t examiner_bound(const uint8_t *file, size_t file_length, const uint8_t *
  */
 uint32_t examiner_run(const uint8_t *file, size_t file_length, const uint8_t *layout, size_t layout_length, const uint32_t *walk,
                       size_t walk_length, uint8_t *held, uint64_t *answer);
+
+/*
+ * Eviction: why a vertex pays its load under a layout, with the shortest walk that shows it. `vertex` is the number of a vertex, f its
+ * function. The reason is the first of these that holds:
+ *   1  on every visit: the vertex is contested. The function named is the lowest in f's region of the interference set of the vertex
+ *      and f. The walk arrives at the vertex having visited that function after its latest visit to f, or at all if f was not visited.
+ *   2  a first load only: some walk arrives with no earlier vertex of f, and the walk is one.
+ *   3  never: every walk that arrives has visited f before. There is no walk.
+ * The walk is written from vertex 0 to `vertex`, both counted: of all that arrive so the one with the fewest entries, then with the
+ * smallest number at the first difference from the start. The arrival itself counts neither for f nor for the function named. Loop
+ * bounds play no part, and the walk ends at `vertex`, so examiner_run may refuse it.
+ *
+ * On 0: answer[0] the entries written to `walk`, answer[1] the number of the reason, answer[2] the function named, for reason 1 alone;
+ * later entries of `walk` keep their values.
+ * Refusals: those of examiner_read, then 11, 12, 13 as examiner_bound, then 21, last 10 (entries needed). Reason 3 needs no entry.
+ */
+uint32_t examiner_eviction(const uint8_t *file, size_t file_length, const uint8_t *layout, size_t layout_length, uint64_t vertex,
+                           uint32_t *walk, size_t walk_length, uint64_t *answer);
 
 /*
  * Write on any record, lawful or not. `fields` are EXAMINER_FIELDS numbers:

@@ -93,7 +93,7 @@ fn refusals_have_names_and_numbers() {
         assert_eq!(RefusalKind::from_number(kind.number()), Some(kind));
     }
     assert_eq!(RefusalKind::from_number(0), None);
-    assert_eq!(RefusalKind::from_number(21), None);
+    assert_eq!(RefusalKind::from_number(22), None);
     assert_eq!(examiner::read(&[]), Err(Refusal { number: RefusalKind::EndsEarly, place: 0 }));
     assert!(examiner::read(&M10[..9]).unwrap_err().to_string().starts_with("refused 1 at 9"));
 }

@@ -19,11 +19,13 @@
 //! ```
 
 mod drawing;
+mod eviction;
 mod fields;
 pub mod raw;
 mod refusal;
 
 pub use drawing::{Drawing, DrawnFunction, DrawnVertex};
+pub use eviction::{Eviction, Reason, MOST_SHOWN};
 pub use fields::{Edge, Fields, Function, Loop, Vertex, MOST_EDGES, MOST_FUNCTIONS, MOST_LOOPS, MOST_VERTICES};
 pub use refusal::{Refusal, RefusalKind};
 
@@ -71,7 +73,7 @@ fn judge(number: u32, answer: Answer) -> Result<Answer, Refusal> {
     if number == 0 {
         return Ok(answer);
     }
-    let number = RefusalKind::from_number(number).expect("the library's refusals have the numbers 1 to 20");
+    let number = RefusalKind::from_number(number).expect("the library's refusals have the numbers 1 to 21");
     Err(Refusal { number, place: answer[0] })
 }
 
@@ -246,4 +248,56 @@ pub fn run(file: &[u8], layout: &[u8], walk: &[u32]) -> Result<Run, Refusal> {
     };
     let [cycles, loads, ..] = judge(number, answer)?;
     Ok(Run { cycles, loads, held: held.map(|function| (function != NONE).then_some(function)) })
+}
+
+/// Tells why a vertex pays its load under a layout, and writes the shortest walk that shows it, from vertex 0 to the vertex, both counted.
+///
+/// Of all walks that show the [`Reason`] it is the one with the fewest entries, then with the smallest number at the first difference from
+/// the start. Loop bounds play no part, and it ends at the vertex, so [`run`] may refuse it. No walk has more than [`MOST_SHOWN`] entries.
+/// Later entries keep their values, and all of them on a refusal.
+///
+/// ```
+/// use examiner::{eviction, write_fields, Edge, Fields, Function, Reason, RefusalKind, Vertex, MOST_SHOWN};
+///
+/// // seven vertices in a chain, of three functions; functions 1 and 2 take turns in region 1
+/// let functions = [(8, 5), (4, 3), (6, 4)].map(|(size, load)| Function { size, load });
+/// let vertices = [0, 1, 0, 2, 0, 1, 0].map(|function| Vertex { function, cost: 10 });
+/// let edges = [0, 1, 2, 3, 4, 5].map(|from| Edge { from, to: from + 1 });
+/// let fields = Fields::new(14, &functions, &vertices, &edges, &[]).expect("there are places for all");
+/// let mut file = [0; 2_091];
+/// let written = write_fields(&fields, &mut file)?;
+/// let (problem, layout) = (&file[..written], [0, 1, 1]);
+///
+/// let mut walk = [0; MOST_SHOWN];
+/// let shown = eviction(problem, &layout, 3, &mut walk)?;
+/// // on the way to vertex 3 function 1 was loaded over function 2
+/// assert_eq!(shown.reason, Reason::EveryVisit { function: 1 });
+/// assert_eq!(walk[..shown.count], [0, 1, 2, 3]);
+/// // vertex 1 loads function 1 once; vertex 2 finds function 0 loaded
+/// assert_eq!(eviction(problem, &layout, 1, &mut walk)?.reason, Reason::FirstLoad);
+/// assert_eq!(eviction(problem, &layout, 2, &mut walk)?.reason, Reason::Never);
+///
+/// assert_eq!(eviction(problem, &layout, 7, &mut walk).unwrap_err().number, RefusalKind::UnknownVertex);
+/// # Ok::<(), examiner::Refusal>(())
+/// ```
+///
+/// # Errors
+/// As [`bound`] but for [`BoundTooLarge`](RefusalKind::BoundTooLarge); then [`UnknownVertex`](RefusalKind::UnknownVertex); last
+/// [`BufferTooShort`](RefusalKind::BufferTooShort).
+pub fn eviction(file: &[u8], layout: &[u8], vertex: u64, walk: &mut [u32]) -> Result<Eviction, Refusal> {
+    let mut answer = [0; 4];
+    // SAFETY: the slices and `answer` are valid for the call; what is written to is borrowed for it alone.
+    let number = unsafe {
+        raw::examiner_eviction(
+            file.as_ptr(),
+            file.len(),
+            layout.as_ptr(),
+            layout.len(),
+            vertex,
+            walk.as_mut_ptr(),
+            walk.len(),
+            answer.as_mut_ptr(),
+        )
+    };
+    Ok(Eviction::told(judge(number, answer)?))
 }

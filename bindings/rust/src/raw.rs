@@ -29,6 +29,18 @@ extern "C" {
         answer: *mut u64,
     ) -> u32;
 
+    /// Eviction.
+    pub fn examiner_eviction(
+        file: *const u8,
+        file_length: usize,
+        layout: *const u8,
+        layout_length: usize,
+        vertex: u64,
+        walk: *mut u32,
+        walk_length: usize,
+        answer: *mut u64,
+    ) -> u32;
+
     /// Write on any record.
     pub fn examiner_write_fields(fields: *const u32, out: *mut u8, out_length: usize, answer: *mut u64) -> u32;
 

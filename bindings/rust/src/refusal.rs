@@ -27,7 +27,7 @@ pub enum RefusalKind {
     WrongEdge = 8,
     /// 9: a loop has no edge back to its header. The place is the lowest such loop.
     NoEdgeBack = 9,
-    /// 10: a buffer is too short. The place is the number of bytes, or of words, needed.
+    /// 10: a buffer is too short. The place is the number of bytes, words or entries needed.
     BufferTooShort = 10,
     /// 11: the layout is longer than the list of functions. The place is their number.
     LayoutTooLong = 11,
@@ -50,11 +50,13 @@ pub enum RefusalKind {
     CountPassed = 19,
     /// 20: the last vertex of a drawn graph calls a function. The place is the lowest such function.
     LastCalls = 20,
+    /// 21: the vertex asked for is unknown: not below the number of vertices. The place is its number.
+    UnknownVertex = 21,
 }
 
 impl RefusalKind {
     /// All kinds, by ascending number.
-    pub const ALL: [RefusalKind; 20] = {
+    pub const ALL: [RefusalKind; 21] = {
         use RefusalKind::*;
         [
             EndsEarly,
@@ -77,10 +79,11 @@ impl RefusalKind {
             Recursive,
             CountPassed,
             LastCalls,
+            UnknownVertex,
         ]
     };
 
-    /// The number of this kind, 1 to 20.
+    /// The number of this kind, 1 to 21.
     pub const fn number(self) -> u32 {
         self as u32
     }
@@ -113,6 +116,7 @@ impl RefusalKind {
             RefusalKind::Recursive => "a function can reach itself by calls",
             RefusalKind::CountPassed => "the drawing makes too large a problem",
             RefusalKind::LastCalls => "the last vertex of a graph calls",
+            RefusalKind::UnknownVertex => "the vertex is unknown",
         }
     }
 }
