@@ -1,4 +1,9 @@
-//! The worked examples of document 01, one more, those of the two totals, and those of drawings.
+//! The worked examples of document 01, one more, those of the two totals, and those of drawings; those of evictions are in a file of their
+//! own.
+
+mod evictions;
+
+pub use evictions::{evictions, longest_shown, WorkedEviction};
 
 use crate::drawing::*;
 use crate::file::encode;

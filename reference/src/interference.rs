@@ -22,7 +22,8 @@ pub fn by_search(problem: &Problem) -> Vec<u32> {
     words
 }
 
-fn search_back(problem: &Problem, predecessors: &[Vec<u32>], vertex: u32, function: u32) -> u32 {
+/// The set of one vertex and function, as [`by_search`] finds it.
+pub fn search_back(problem: &Problem, predecessors: &[Vec<u32>], vertex: u32, function: u32) -> u32 {
     let mut seen = vec![false; problem.vertices.len()];
     let mut members = 0;
     let mut open = vec![vertex];

@@ -9,6 +9,7 @@
 //! | greatest charges of a walk | [`longest::by_contraction`]: loops become edges, the innermost first | [`longest::by_states`]: the graph unfolded by its visit counts; [`longest::lawful_walks`]: every lawful walk, charged by looking back |
 //! | early vertices | [`totals::early`]: a search for each function | [`totals::early_by_states`]: a search over what walks have visited |
 //! | the filled-in layout | [`layout::filled`]: the free regions are dealt out | [`layout::filled_in_turn`]: each function looks at all before it |
+//! | why a vertex pays its load | [`eviction::by_phases`]: its interference set, then a search forwards over vertices and phases | [`eviction::AllWalks`]: every walk by length, looking back |
 //! | a run | [`run::simulate`]: one pass | [`run::simulate_by_looking_back`]: each visit looks at all before it |
 //! | one problem from a drawing | [`inline::recursively`]: each callee is inlined whole and moved | [`inline::by_splicing`]: one call at a time; [`stack::lawful_runs`]: every lawful run with a call stack |
 //!
@@ -17,6 +18,7 @@
 //! The operations below take the problem as its file, as the exports of the library do; two make such a file.
 
 pub mod drawing;
+pub mod eviction;
 pub mod examples;
 pub mod fast;
 pub mod file;
@@ -31,6 +33,7 @@ pub mod stack;
 pub mod totals;
 
 pub use drawing::{Drawing, DrawnFunction, DrawnVertex, DRAWING};
+pub use eviction::{Eviction, Reason};
 pub use layout::Bound;
 pub use problem::{Counts, Edge, Function, Loop, Problem, Refusal, Vertex, FIELDS};
 pub use run::Run;
@@ -91,4 +94,11 @@ pub fn run(file: &[u8], layout: &[u8], walk: &[u32]) -> Result<Run, Refusal> {
     let (regions, _) = layout::check(&problem, layout)?;
     run::check(&problem, walk)?;
     Ok(run::simulate(&problem, &regions, walk))
+}
+
+/// Eviction: why a vertex pays its load. Writes the shortest walk that shows it.
+pub fn eviction(file: &[u8], layout: &[u8], vertex: u64, walk: &mut [u32]) -> Result<Eviction, Refusal> {
+    let problem = read(file)?;
+    let (regions, _) = layout::check(&problem, layout)?;
+    eviction::of(&problem, &regions, vertex, walk)
 }

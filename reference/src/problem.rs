@@ -20,6 +20,8 @@ pub const REGIONS: usize = 32;
 pub const MOST_BOUND: u64 = 1_000_000_000_000_000_000;
 /// The greatest length of a walk that Run takes.
 pub const MOST_ENTRIES: usize = 1_000_000;
+/// No walk that Eviction shows has more entries.
+pub const MOST_SHOWN: usize = 256;
 
 /// The places of a record: the scratchpad size, and each count followed by all the places for its items.
 pub const FIELDS: usize = 1 + (1 + 2 * MOST_FUNCTIONS) + (1 + 2 * MOST_VERTICES) + (1 + 2 * MOST_EDGES) + (1 + 3 * MOST_LOOPS);
@@ -27,7 +29,7 @@ pub const FIELDS: usize = 1 + (1 + 2 * MOST_FUNCTIONS) + (1 + 2 * MOST_VERTICES)
 /// A refusal: its number, and the place.
 #[derive(Clone, Copy, Debug, PartialEq, Eq, Hash)]
 pub struct Refusal {
-    /// 1 to 20.
+    /// 1 to 21.
     pub number: u8,
     /// What the place means depends on the number.
     pub place: u64,
