@@ -9,10 +9,12 @@
 //!   one visited in the region of its own: one word a vertex says which functions may be the latest of their region, and one which
 //!   may not have been visited yet. These also say which vertices are early, and both totals come of one pass over the vertices.
 //! - Run looks each step up in a table of all pairs of vertices, and counts visits to every vertex as if it were a header.
-//! - Inline is in a file of its own.
+//! - Inline and Eviction are in files of their own.
 
+mod eviction;
 mod inline;
 
+pub use eviction::eviction;
 pub use inline::inline;
 
 use crate::layout::Bound;

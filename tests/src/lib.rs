@@ -2,6 +2,7 @@
 
 pub mod damage;
 pub mod drawings;
+pub mod evictions;
 pub mod layouts;
 pub mod lent;
 pub mod problems;

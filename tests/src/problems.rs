@@ -268,3 +268,32 @@ pub fn followed_by(mut problem: Problem, more: u64) -> Problem {
     problem.edges.sort_unstable();
     problem
 }
+
+/// A lawful problem whose vertices stand in layers of at most three, with edges from each to the next in any order, so that several walks to a
+/// vertex have as few entries. About every second has a loop around all but the last vertex.
+pub fn braided(random: &mut Random) -> Problem {
+    let mut edges = BTreeSet::new();
+    let mut layer = vec![0];
+    let widths: Vec<u32> = (0..random.count(2..=4)).map(|_| random.field(1..=3)).chain([1]).collect();
+    for width in widths {
+        let first = layer[layer.len() - 1] + 1;
+        let next: Vec<u32> = (first..first + width).collect();
+        edges.extend(layer.iter().map(|&from| (from, *random.pick(&next))));
+        edges.extend(next.iter().map(|&to| (*random.pick(&layer), to)));
+        layer = next;
+    }
+    let last = layer[0];
+    let mut loops = Vec::new();
+    if random.percent(50) {
+        edges.insert((random.field(0..=last - 1), 0));
+        loops.push(Loop { header: 0, last: last - 1, bound: random.field(1..=2) });
+    }
+    let functions = random.count(2..=4);
+    Problem {
+        scratchpad: MOST_SIZE,
+        functions: vec![Function { size: 1, load: 1 }; functions],
+        vertices: (0..=last).map(|_| Vertex { function: random.count(0..=functions - 1) as u32, cost: 1 }).collect(),
+        edges: edges.into_iter().map(|(from, to)| Edge { from, to }).collect(),
+        loops,
+    }
+}
