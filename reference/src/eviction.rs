@@ -30,31 +30,15 @@ pub fn of(problem: &Problem, regions: &[u8], vertex: u64, walk: &mut [u32]) -> R
     if vertex >= problem.vertices.len() as u64 {
         return Err(Refusal { number: 21, place: vertex });
     }
-    let (reason, shown) = by_phases(problem, regions, vertex as u32);
+    let (reason, shown) = Searched::new(problem).eviction(regions, vertex as u32);
+    written(reason, &shown, walk)
+}
+
+/// Writes the walk that shows a reason: 10 where it has more entries than there are.
+pub fn written(reason: Reason, shown: &[u32], walk: &mut [u32]) -> Result<Eviction, Refusal> {
     let room = walk.get_mut(..shown.len()).ok_or(Refusal::at(10, shown.len()))?;
-    room.copy_from_slice(&shown);
+    room.copy_from_slice(shown);
     Ok(Eviction { reason, count: shown.len() })
-}
-
-/// The reason of a vertex and the walk that shows it, which is empty for `Never`: by the interference set, then by a search forwards.
-pub fn by_phases(problem: &Problem, regions: &[u8], vertex: u32) -> (Reason, Vec<u32>) {
-    let own = problem.function_of(vertex);
-    if let Some(&rival) = rivals(problem, regions, vertex).first() {
-        let walk = shortest(problem, Phases { own, rival: Some(rival) }, vertex);
-        return (Reason::EveryVisit(rival), walk.expect("some walk visits each member of the set"));
-    }
-    match shortest(problem, Phases { own, rival: None }, vertex) {
-        Some(walk) => (Reason::FirstLoad, walk),
-        None => (Reason::Never, vec![]),
-    }
-}
-
-/// The functions in the region of a vertex's function that are in the interference set of both, ascending.
-pub fn rivals(problem: &Problem, regions: &[u8], vertex: u32) -> Vec<u32> {
-    let own = problem.function_of(vertex);
-    let set = search_back(problem, &problem.predecessors(), vertex, own);
-    let functions = 0..problem.functions.len() as u32;
-    functions.filter(|&g| set >> g & 1 == 1 && regions[g as usize] == regions[own as usize]).collect()
 }
 
 /// What a walk has done before it arrives at a vertex, as one of two phases: whether it visited the rival since its latest visit to `own`,
@@ -79,34 +63,70 @@ impl Phases {
     }
 }
 
-/// The walk with the fewest entries that arrives at a vertex in the phase looked for, then with the smallest number at the first difference.
-///
-/// A search forwards, level by level, with edges in ascending order: states come up in the order of the walks that first reach them, so the
-/// first parent is kept.
-pub fn shortest(problem: &Problem, phases: Phases, vertex: u32) -> Option<Vec<u32>> {
-    let successors = problem.successors();
-    let start = (0, phases.begun());
-    let mut parents: Vec<[Option<(u32, bool)>; 2]> = vec![[None; 2]; problem.vertices.len()];
-    parents[0][usize::from(start.1)] = Some(start);
-    let mut open = VecDeque::from([start]);
-    while let Some((at, phase)) = open.pop_front() {
-        let after = phases.after(phase, problem.function_of(at));
-        for &next in &successors[at as usize] {
-            let parent = &mut parents[next as usize][usize::from(after)];
-            if parent.is_none() {
-                *parent = Some((at, phase));
-                open.push_back((next, after));
-            }
+/// A problem with the edges of each vertex at hand.
+pub struct Searched<'a> {
+    /// The problem.
+    pub problem: &'a Problem,
+    successors: Vec<Vec<u32>>,
+    predecessors: Vec<Vec<u32>>,
+}
+
+impl Searched<'_> {
+    /// Lists the edges of each vertex.
+    pub fn new(problem: &Problem) -> Searched<'_> {
+        Searched { problem, successors: problem.successors(), predecessors: problem.predecessors() }
+    }
+
+    /// The reason of a vertex and the walk that shows it, which is empty for `Never`: by the interference set, then by a search forwards over
+    /// vertices and phases.
+    pub fn eviction(&self, regions: &[u8], vertex: u32) -> (Reason, Vec<u32>) {
+        let own = self.problem.function_of(vertex);
+        if let Some(&rival) = self.rivals(regions, vertex).first() {
+            let walk = self.shortest(Phases { own, rival: Some(rival) }, vertex);
+            return (Reason::EveryVisit(rival), walk.expect("some walk visits each member of the set"));
+        }
+        match self.shortest(Phases { own, rival: None }, vertex) {
+            Some(walk) => (Reason::FirstLoad, walk),
+            None => (Reason::Never, vec![]),
         }
     }
-    let mut walk = vec![vertex];
-    let mut state = (vertex, true);
-    while state != start {
-        state = parents[state.0 as usize][usize::from(state.1)]?;
-        walk.push(state.0);
+
+    /// The functions in the region of a vertex's function that are in the interference set of both, ascending.
+    pub fn rivals(&self, regions: &[u8], vertex: u32) -> Vec<u32> {
+        let own = self.problem.function_of(vertex);
+        let set = search_back(self.problem, &self.predecessors, vertex, own);
+        let functions = 0..self.problem.functions.len() as u32;
+        functions.filter(|&g| set >> g & 1 == 1 && regions[g as usize] == regions[own as usize]).collect()
     }
-    walk.reverse();
-    Some(walk)
+
+    /// The walk with the fewest entries that arrives at a vertex in the phase looked for, then with the smallest number at the first difference.
+    ///
+    /// A search forwards, level by level, with edges in ascending order: states come up in the order of the walks that first reach them, so the
+    /// first parent is kept.
+    pub fn shortest(&self, phases: Phases, vertex: u32) -> Option<Vec<u32>> {
+        let start = (0, phases.begun());
+        let mut parents: Vec<[Option<(u32, bool)>; 2]> = vec![[None; 2]; self.problem.vertices.len()];
+        parents[0][usize::from(start.1)] = Some(start);
+        let mut open = VecDeque::from([start]);
+        while let Some((at, phase)) = open.pop_front() {
+            let after = phases.after(phase, self.problem.function_of(at));
+            for &next in &self.successors[at as usize] {
+                let parent = &mut parents[next as usize][usize::from(after)];
+                if parent.is_none() {
+                    *parent = Some((at, phase));
+                    open.push_back((next, after));
+                }
+            }
+        }
+        let mut walk = vec![vertex];
+        let mut state = (vertex, true);
+        while state != start {
+            state = parents[state.0 as usize][usize::from(state.1)]?;
+            walk.push(state.0);
+        }
+        walk.reverse();
+        Some(walk)
+    }
 }
 
 /// Every walk of a small problem that may be a shortest one, by the vertex at its end, in the order that Eviction chooses by.
@@ -159,7 +179,7 @@ impl AllWalks<'_> {
         }
     }
 
-    /// As [`by_phases`]: the first reason that a walk shows, with the first walk that does.
+    /// As [`Searched::eviction`]: the first reason that a walk shows, with the first walk that does.
     pub fn eviction(&self, regions: &[u8], vertex: u32) -> (Reason, Vec<u32>) {
         let rivals = (0..self.problem.functions.len() as u32).map(Reason::EveryVisit);
         let first = |reason| self.arriving(vertex).iter().find(|walk| self.shows(regions, walk, reason)).map(|walk| (reason, walk.clone()));

@@ -9,7 +9,7 @@
 //! | greatest charges of a walk | [`longest::by_contraction`]: loops become edges, the innermost first | [`longest::by_states`]: the graph unfolded by its visit counts; [`longest::lawful_walks`]: every lawful walk, charged by looking back |
 //! | early vertices | [`totals::early`]: a search for each function | [`totals::early_by_states`]: a search over what walks have visited |
 //! | the filled-in layout | [`layout::filled`]: the free regions are dealt out | [`layout::filled_in_turn`]: each function looks at all before it |
-//! | why a vertex pays its load | [`eviction::by_phases`]: its interference set, then a search forwards over vertices and phases | [`eviction::AllWalks`]: every walk by length, looking back |
+//! | why a vertex pays its load | [`eviction::Searched`]: its interference set, then a search forwards over vertices and phases | [`eviction::AllWalks`]: every walk by length, looking back |
 //! | a run | [`run::simulate`]: one pass | [`run::simulate_by_looking_back`]: each visit looks at all before it |
 //! | one problem from a drawing | [`inline::recursively`]: each callee is inlined whole and moved | [`inline::by_splicing`]: one call at a time; [`stack::lawful_runs`]: every lawful run with a call stack |
 //!

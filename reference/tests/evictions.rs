@@ -1,6 +1,6 @@
 //! The worked evictions, by all methods, and what Eviction refuses.
 
-use reference::eviction::{by_phases, AllWalks};
+use reference::eviction::{AllWalks, Searched};
 use reference::examples::{evictions, longest_shown, p, r, WorkedEviction, M10};
 use reference::problem::{Problem, MOST_SHOWN};
 use reference::{eviction, fast, file, layout, run, Eviction, Reason, Refusal};
@@ -23,7 +23,7 @@ fn asked(file: &[u8], layout: &[u8], vertex: u64, room: usize) -> (Result<Evicti
 fn worked_evictions_are_as_they_are_written() {
     for WorkedEviction { what, problem, layout, vertex, reason, walk } in evictions() {
         let (regions, _) = layout::check(&problem, &layout).expect(what);
-        assert_eq!(by_phases(&problem, &regions, vertex), (reason, walk.clone()), "{what}, vertex {vertex}");
+        assert_eq!(Searched::new(&problem).eviction(&regions, vertex), (reason, walk.clone()), "{what}, vertex {vertex}");
         let all = AllWalks::new(&problem, 10_000).expect("few walks");
         assert_eq!(all.eviction(&regions, vertex), (reason, walk.clone()), "{what}, vertex {vertex}");
         let (answer, after) = asked(&file_of(&problem), &layout, u64::from(vertex), walk.len() + 3);

@@ -1,6 +1,6 @@
 //! What evictions are like, to be counted, and what wrong readings of them would give.
 
-use reference::eviction::{by_phases, rivals, shortest, Phases};
+use reference::eviction::{Phases, Searched};
 use reference::problem::*;
 use reference::run::{check, simulate};
 use reference::Reason;
@@ -30,10 +30,8 @@ pub const READINGS: [&str; 7] = [
 
 /// A vertex of a lawful problem with what Eviction says of it.
 pub struct Shown<'a> {
-    /// The problem.
-    pub problem: &'a Problem,
-    /// The region of each function.
-    pub regions: &'a [u8],
+    graph: &'a Searched<'a>,
+    regions: &'a [u8],
     /// The vertex.
     pub vertex: u32,
     /// When its load is charged.
@@ -43,43 +41,56 @@ pub struct Shown<'a> {
 }
 
 impl Shown<'_> {
-    /// Asks the independent implementation.
-    pub fn new<'a>(problem: &'a Problem, regions: &'a [u8], vertex: u32) -> Shown<'a> {
-        let (reason, walk) = by_phases(problem, regions, vertex);
-        Shown { problem, regions, vertex, reason, walk }
+    /// What the independent implementation says of each vertex.
+    pub fn all<'a>(graph: &'a Searched, regions: &'a [u8]) -> Vec<Shown<'a>> {
+        let shown = |vertex: u32| {
+            let (reason, walk) = graph.eviction(regions, vertex);
+            Shown { graph, regions, vertex, reason, walk }
+        };
+        (0..=graph.problem.last_vertex()).map(shown).collect()
     }
 
-    fn own(&self) -> u32 {
-        self.problem.function_of(self.vertex)
+    fn problem(&self) -> &Problem {
+        self.graph.problem
+    }
+
+    /// The vertex's function.
+    pub fn own(&self) -> u32 {
+        self.problem().function_of(self.vertex)
     }
 
     /// Whether some walk arrives with no visit to the vertex's function.
     fn is_fresh(&self) -> bool {
-        shortest(self.problem, Phases { own: self.own(), rival: None }, self.vertex).is_some()
+        self.graph.shortest(Phases { own: self.own(), rival: None }, self.vertex).is_some()
     }
 
-    /// The function that the vertex's region holds as the walk arrives, 255 for none.
-    pub fn held(&self) -> u8 {
-        let before = &self.walk[..self.walk.len().max(1) - 1];
-        simulate(self.problem, self.regions, before).held[usize::from(self.regions[self.own() as usize])]
+    /// The function that the vertex's region holds as a walk arrives, 255 for none.
+    pub fn held_after(&self, walk: &[u32]) -> u8 {
+        let before = &walk[..walk.len().max(1) - 1];
+        simulate(self.problem(), self.regions, before).held[usize::from(self.regions[self.own() as usize])]
     }
 
-    /// Each reason and shape with whether it is met.
-    pub fn cases(&self) -> Vec<(&'static str, bool)> {
+    /// Each reason with whether it is this one.
+    pub fn reasons(&self) -> Vec<(&'static str, bool)> {
         let contested = matches!(self.reason, Reason::EveryVisit(_));
-        let reasons = [contested, self.reason == Reason::FirstLoad, self.reason == Reason::Never];
+        let is = [contested, self.reason == Reason::FirstLoad, self.reason == Reason::Never];
+        REASONS.into_iter().zip(is).collect()
+    }
+
+    /// Each shape with whether the walk has it.
+    pub fn shapes(&self) -> Vec<(&'static str, bool)> {
         let before = &self.walk[..self.walk.len().max(1) - 1];
         let twice = |v: &u32| *v != self.vertex && before.iter().filter(|&other| other == v).count() > 1;
-        let Problem { edges, loops, .. } = self.problem;
+        let Problem { edges, loops, .. } = self.problem();
         let is_dead = |l: &&Loop| !edges.iter().any(|e| l.holds(e.from) && !l.holds(e.to));
-        let shapes = [
-            contested && self.vertex == 0,
+        let has = [
+            self.vertex == 0 && !before.is_empty(),
             before.contains(&self.vertex),
             before.iter().any(twice),
-            check(self.problem, &self.walk).is_err_and(|refusal| refusal.number == 16),
+            check(self.problem(), &self.walk).is_err_and(|refusal| refusal.number == 16),
             !before.is_empty() && loops.iter().filter(is_dead).any(|l| l.holds(self.vertex)),
         ];
-        REASONS.into_iter().zip(reasons).chain(SHAPES.into_iter().zip(shapes)).collect()
+        SHAPES.into_iter().zip(has).collect()
     }
 
     /// Each wrong reading with whether it would give another answer.
@@ -88,11 +99,11 @@ impl Shown<'_> {
             let others = [false, false, false, self.from_the_end() != self.walk, self.without_edges_back(), false, false];
             return READINGS.into_iter().zip(others).collect();
         };
-        let all = rivals(self.problem, self.regions, self.vertex);
-        let walk_of = |own: u32, rival: u32| shortest(self.problem, Phases { own, rival: Some(rival) }, self.vertex);
+        let all = self.graph.rivals(self.regions, self.vertex);
+        let walk_of = |own: u32, rival: u32| self.graph.shortest(Phases { own, rival: Some(rival) }, self.vertex);
         let quickest = all.iter().min_by_key(|&&g| walk_of(self.own(), g).map_or(usize::MAX, |walk| walk.len()));
         // no vertex has this function, so no visit ends the phase
-        let none = self.problem.functions.len() as u32;
+        let none = self.problem().functions.len() as u32;
         let others = [
             all.last() != Some(&rival),
             quickest != Some(&rival),
@@ -100,15 +111,15 @@ impl Shown<'_> {
             self.from_the_end() != self.walk,
             self.without_edges_back(),
             self.is_fresh(),
-            u32::from(self.held()) != rival,
+            u32::from(self.held_after(&self.walk)) != rival,
         ];
         READINGS.into_iter().zip(others).collect()
     }
 
     fn without_edges_back(&self) -> bool {
-        let edges = self.problem.edges.iter().copied().filter(|e| e.from < e.to).collect();
-        let ahead = Problem { edges, loops: vec![], ..self.problem.clone() };
-        by_phases(&ahead, self.regions, self.vertex) != (self.reason, self.walk.clone())
+        let edges = self.problem().edges.iter().copied().filter(|e| e.from < e.to).collect();
+        let ahead = Problem { edges, loops: vec![], ..self.problem().clone() };
+        Searched::new(&ahead).eviction(self.regions, self.vertex) != (self.reason, self.walk.clone())
     }
 
     /// Of the walks that show the reason and have the fewest entries the one with the smallest number at the first difference from the end.
@@ -124,7 +135,7 @@ impl Shown<'_> {
         for level in levels.iter().rev().skip(1) {
             let leads = |&&(from, phase): &&(u32, bool)| {
                 let to = Edge { from, to: at[0].0 };
-                self.problem.edges.contains(&to) && at.contains(&(to.to, phases.after(phase, self.problem.function_of(from))))
+                self.problem().edges.contains(&to) && at.contains(&(to.to, phases.after(phase, self.problem().function_of(from))))
             };
             let before: Vec<(u32, bool)> = level.iter().filter(leads).copied().collect();
             let lowest = before.iter().map(|state| state.0).min().expect("a walk leads here");
@@ -137,11 +148,11 @@ impl Shown<'_> {
 
     /// The states that walks of each number of entries come to, as many as the shown walk has.
     fn levels(&self, phases: Phases) -> Vec<Vec<(u32, bool)>> {
-        let successors = self.problem.successors();
+        let successors = self.problem().successors();
         let mut levels = vec![vec![(0, phases.begun())]];
         while levels.len() < self.walk.len() {
             let steps = |&(at, phase): &(u32, bool)| {
-                let after = phases.after(phase, self.problem.function_of(at));
+                let after = phases.after(phase, self.problem().function_of(at));
                 successors[at as usize].iter().map(move |&next| (next, after))
             };
             let mut next: Vec<(u32, bool)> = levels[levels.len() - 1].iter().flat_map(steps).collect();

@@ -6,6 +6,9 @@
 //!
 //! CASES=10 in the environment tries ten times as many cases.
 
+#[path = "compare/evictions.rs"]
+mod evictions;
+
 use std::collections::BTreeMap;
 use std::panic::{catch_unwind, AssertUnwindSafe};
 use std::process::exit;
@@ -81,7 +84,7 @@ struct Comparison {
     /// Calls of each export.
     calls: BTreeMap<&'static str, usize>,
     /// Refusals by number; at 0 the calls that were not refused.
-    met: [usize; 21],
+    met: [usize; 22],
     /// Cases worth counting.
     seen: BTreeMap<&'static str, usize>,
     /// What was asked last, to be shown where the two differ.
@@ -94,6 +97,7 @@ struct Asked {
     file: Vec<u8>,
     layout: Vec<u8>,
     walk: Vec<u32>,
+    vertex: Option<u64>,
     fields: Vec<u32>,
     drawing: Vec<(DrawnFunction, Counts)>,
 }
@@ -103,6 +107,7 @@ impl Asked {
         eprintln!("file    {:02X?}", self.file);
         eprintln!("layout  {:?}", self.layout);
         eprintln!("walk    {} entries, the first of them {:?}", self.walk.len(), &self.walk[..self.walk.len().min(500)]);
+        eprintln!("vertex  {:?}", self.vertex);
         eprintln!("fields  {:?}", self.fields);
         for (function, drawn) in self.drawing.iter().enumerate() {
             eprintln!("drawn   {function}: {drawn:?}");
@@ -120,7 +125,7 @@ fn plain<T>(result: Result<T, examiner::Refusal>) -> Result<T, Refusal> {
 
 impl Comparison {
     fn new() -> Comparison {
-        Comparison { random: Random::seeded(0), calls: BTreeMap::new(), met: [0; 21], seen: BTreeMap::new(), asked: Asked::default() }
+        Comparison { random: Random::seeded(0), calls: BTreeMap::new(), met: [0; 22], seen: BTreeMap::new(), asked: Asked::default() }
     }
 
     fn saw(&mut self, what: &'static str, it: bool) {
@@ -264,6 +269,7 @@ impl Comparison {
         let problem = reference::read(&file).expect("accepted");
         let walk = walks::wandering(&mut self.random, &problem, most, 2 * most + 200);
         self.layout_and_walk(&file, &layout, &walk);
+        self.every_eviction(&problem, &file, &layout);
     }
 
     /// A lawful run of the drawn program is a lawful walk of the one problem, with the same cycles, loads and functions held in the end, and
@@ -407,8 +413,10 @@ impl Comparison {
         run.ok()
     }
 
-    /// Bound and Run with one layout and one walk. Where both give their results, no run is longer than the bound.
+    /// Bound and Run with one layout and one walk, and Eviction with any vertex. Where the first two give their results, no run is longer than
+    /// the bound.
     fn layout_and_walk(&mut self, file: &[u8], layout: &[u8], walk: &[u32]) {
+        self.some_eviction(file, layout);
         if let (Some(bound), Some(Run { cycles, .. })) = (self.bound(file, layout), self.run(file, layout, walk)) {
             assert!(cycles <= bound, "a run of {cycles} cycles passes the bound {bound}");
             self.saw("a run within its bound", cycles < bound);
@@ -486,6 +494,10 @@ impl Comparison {
             let damage = self.random.field(0..=walks::DAMAGES - 1);
             let broken = walks::damaged(&mut self.random, &problem, &walk, damage);
             self.layout_and_walk(&file, &layout, &broken);
+            // in large problems under one layout: there are many vertices
+            if turn == 0 || problem.vertices.len() <= 24 {
+                self.every_eviction(&problem, &file, &layout);
+            }
         }
     }
 }
@@ -687,6 +699,7 @@ fn limits(c: &mut Comparison) {
             c.saw("a bound of exactly the limit", expected == Some(MOST_BOUND));
             c.saw("first loads that pass the limit", total <= MOST_BOUND && expected.is_none());
             c.layout_and_walk(&file_of(&problem), &[], &[0]);
+            c.every_eviction(&problem, &file_of(&problem), &[]);
         }
     }
     for (bound, dead) in [(1, false), (2, false), (1, true), (MOST_VISITS, true)] {
@@ -734,6 +747,7 @@ fn two_totals(c: &mut Comparison) {
             let walk = by_states(&problem, charges, 1_000).map_or(vec![0], |(_, walk)| walk);
             c.layout_and_walk(&file_of(&problem), &layout, &walk);
         }
+        c.every_eviction(&problem, &file_of(&problem), &layout);
     }
 }
 
@@ -749,6 +763,9 @@ fn totals_at_the_limit(c: &mut Comparison) {
             assert_eq!((totals.first, totals.second), (first + more, second + more));
             let bound = c.bound(&file_of(&followed), &layout);
             assert_eq!(bound.map(u128::from), Some(totals.smaller()).filter(|&bound| bound <= u128::from(MOST_BOUND)));
+            if past > 0 {
+                c.every_eviction(&followed, &file_of(&followed), &layout);
+            }
         }
     }
 }
@@ -1035,13 +1052,22 @@ fn empty_slices(c: &mut Comparison) {
             c.call("examiner_run", &refused(15, 0), |answer| raw::examiner_run(M10.as_ptr(), 10, null(), 0, null(), 0, place, answer));
             assert_eq!(held, [7; 32]);
         }
+        c.call("examiner_eviction", &refused(10, 1), |answer| {
+            raw::examiner_eviction(M10.as_ptr(), 10, null(), 0, 0, null_mut(), 0, answer)
+        });
+        let (file, layout) = (file_of(&p()), [0, 1, 1]);
+        let (size, regions) = (file.len(), layout.as_ptr());
+        // never: no entry written
+        c.call("examiner_eviction", &Ok(vec![0, 3]), |answer| {
+            raw::examiner_eviction(file.as_ptr(), size, regions, 3, 2, null_mut(), 0, answer)
+        });
     }
 }
 
 fn main() {
     let mut comparison = Comparison::new();
     type Group = fn(&mut Comparison);
-    // the quick ones first, of files and of drawings; then the two totals
+    // the quick ones first, of files and of drawings; then the two totals, and evictions
     let groups: &[(&str, Group)] = &[
         ("empty slices", empty_slices),
         ("random small graphs", any_small_graph),
@@ -1063,6 +1089,8 @@ fn main() {
         ("drawings of any size", drawings_of_any_size),
         ("two totals", two_totals),
         ("totals at the limit", totals_at_the_limit),
+        ("worked evictions", evictions::worked_evictions),
+        ("readings of evictions", evictions::readings_of_evictions),
     ];
     for (index, (name, group)) in groups.iter().enumerate() {
         let started = Instant::now();
@@ -1096,8 +1124,9 @@ fn main() {
     for (what, times) in &comparison.seen {
         assert!(*times > 0, "there was never {what}");
     }
-    for (what, least) in LEAST.into_iter().chain(DRAWING_REFUSED.map(|(_, what)| (what, LEAST_REFUSED))).chain(least_of_totals()) {
+    let refused_drawings = DRAWING_REFUSED.map(|(_, what)| (what, LEAST_REFUSED));
+    for (what, least) in LEAST.into_iter().chain(refused_drawings).chain(least_of_totals()).chain(evictions::least()) {
         assert!(comparison.seen[what] >= least, "there was too seldom {what}");
     }
-    println!("\n{} calls agree; every refusal from 1 to 20 was met", comparison.calls.values().sum::<usize>());
+    println!("\n{} calls agree; every refusal from 1 to 21 was met", comparison.calls.values().sum::<usize>());
 }

@@ -8,7 +8,7 @@ use examiner_tests::evictions::{Shown, NEVER_OF_COLD, READINGS, REASONS, SHAPES}
 use examiner_tests::problems::{braided, lawful, Plan};
 use examiner_tests::random::Random;
 use examiner_tests::{effort, layouts};
-use reference::eviction::AllWalks;
+use reference::eviction::{AllWalks, Searched};
 use reference::layout::check;
 use reference::problem::*;
 use reference::{fast, Reason};
@@ -48,12 +48,10 @@ fn shared_regions(random: &mut Random, functions: usize) -> Vec<u8> {
 
 /// A walk that is shown finds the vertex's function not held; where none is, every walk that arrives finds it held.
 fn is_true_of_runs(shown: &Shown, all: &AllWalks) {
-    let held_at_end = |walk: &[u32]| u32::from(Shown { walk: walk.to_vec(), ..*shown }.held());
-    let own = shown.problem.function_of(shown.vertex);
-    if shown.reason == Reason::Never {
-        assert!(all.arriving(shown.vertex).iter().all(|walk| held_at_end(walk) == own), "{:?}", shown.problem);
-    } else {
-        assert_ne!(held_at_end(&shown.walk), own, "{:?} {:?}", shown.problem, shown.walk);
+    let arrives_held = |walk: &[u32]| u32::from(shown.held_after(walk)) == shown.own();
+    match shown.reason {
+        Reason::Never => assert!(all.arriving(shown.vertex).iter().all(|walk| arrives_held(walk))),
+        _ => assert!(!arrives_held(&shown.walk), "{:?}", shown.walk),
     }
 }
 
@@ -66,14 +64,13 @@ fn evictions_by_phases_and_by_all_walks() {
         let problem = small_problem(&mut random);
         let Some(all) = AllWalks::new(&problem, 10_000) else { continue };
         let regions = shared_regions(&mut random, problem.functions.len());
-        let vertices = 0..problem.vertices.len() as u32;
-        let shown: Vec<Shown> = vertices.map(|vertex| Shown::new(&problem, &regions, vertex)).collect();
+        let graph = Searched::new(&problem);
+        let shown = Shown::all(&graph, &regions);
         for one in &shown {
             assert_eq!((one.reason, one.walk.clone()), all.eviction(&regions, one.vertex), "{problem:?} {regions:?}");
             is_true_of_runs(one, &all);
-            one.cases().into_iter().chain(one.readings()).for_each(|(what, it)| seen.saw(what, it));
-            let cold =
-                |other: &Shown| other.reason == Reason::FirstLoad && problem.function_of(other.vertex) == problem.function_of(one.vertex);
+            one.reasons().into_iter().chain(one.shapes()).chain(one.readings()).for_each(|(what, it)| seen.saw(what, it));
+            let cold = |other: &Shown| other.reason == Reason::FirstLoad && other.own() == one.own();
             seen.saw(NEVER_OF_COLD, one.reason == Reason::Never && shown.iter().any(cold));
             compared += 1;
         }
@@ -93,10 +90,9 @@ fn the_first_difference_from_the_end_by_all_walks() {
         let problem = small_problem(&mut random);
         let Some(all) = AllWalks::new(&problem, 10_000) else { continue };
         let regions = shared_regions(&mut random, problem.functions.len());
-        for vertex in 0..problem.vertices.len() as u32 {
-            let shown = Shown::new(&problem, &regions, vertex);
+        for shown in Shown::all(&Searched::new(&problem), &regions) {
             let as_short = |walk: &&Vec<u32>| walk.len() == shown.walk.len() && all.shows(&regions, walk, shown.reason);
-            let last = all.arriving(vertex).iter().filter(as_short).min_by_key(|walk| walk.iter().rev().copied().collect::<Vec<_>>());
+            let last = all.arriving(shown.vertex).iter().filter(as_short).min_by_key(|walk| walk.iter().rev().copied().collect::<Vec<_>>());
             assert_eq!(last.cloned().unwrap_or_default(), shown.from_the_end(), "{problem:?} {regions:?}");
             others += usize::from(shown.from_the_end() != shown.walk);
         }
@@ -109,10 +105,9 @@ fn the_first_difference_from_the_end_by_all_walks() {
 fn reasons_are_those_of_bound(problem: &Problem, regions: &[u8]) {
     let contested = reference::layout::contested(problem, &reference::interference::by_search(problem), regions);
     let early = reference::totals::early(problem, &contested);
-    for vertex in 0..problem.vertices.len() {
-        let Shown { reason, .. } = Shown::new(problem, regions, vertex as u32);
-        assert_eq!(matches!(reason, Reason::EveryVisit(_)), contested[vertex], "{problem:?} {regions:?}");
-        assert_eq!(reason == Reason::FirstLoad, early[vertex], "{problem:?} {regions:?}");
+    for Shown { vertex, reason, .. } in Shown::all(&Searched::new(problem), regions) {
+        assert_eq!(matches!(reason, Reason::EveryVisit(_)), contested[vertex as usize], "{problem:?} {regions:?}");
+        assert_eq!(reason == Reason::FirstLoad, early[vertex as usize], "{problem:?} {regions:?}");
     }
 }
 
