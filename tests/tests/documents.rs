@@ -1,7 +1,7 @@
-//! The documents name edits, proofs and definitions: each has to be there. A refusal has one name, in whatever language.
+//! The documents name edits, proofs and definitions: each has to be there. A refusal, an export and a limit have one name, in whatever language.
 
 use examiner::RefusalKind;
-use std::collections::BTreeMap;
+use std::collections::{BTreeMap, BTreeSet};
 use std::ffi::OsStr;
 use std::fs;
 use std::path::{Path, PathBuf};
@@ -237,6 +237,38 @@ fn a_refusal_has_one_name() {
     });
     assert_eq!(in_header, rust, "in include/examiner.h");
     assert_eq!(in_source, rust, "in crates/model/src/lib.rt");
+}
+
+/// The words that stand directly behind a mark, up to what is no part of a name.
+fn names_behind<'a>(text: &'a str, mark: &'a str) -> BTreeSet<&'a str> {
+    let name = |rest: &'a str| rest.split(|c: char| !c.is_alphanumeric() && c != '_').next().unwrap_or_default();
+    text.split(mark).skip(1).map(name).collect()
+}
+
+#[test]
+fn an_export_is_in_the_library_the_header_and_the_wrapper() {
+    let text = |path: &str| fs::read_to_string(root().join(path)).expect(path);
+    let (source, header, wrapper) = (text("crates/examiner/src/lib.rt"), text("include/examiner.h"), text("bindings/rust/src/raw.rs"));
+    let exports = names_behind(&source, "pub extern \"C\" fn ");
+    assert!(exports.len() >= 8, "only {exports:?}");
+    assert_eq!(names_behind(&header, "\nuint32_t "), exports, "in include/examiner.h");
+    assert_eq!(names_behind(&wrapper, "pub fn "), exports, "in bindings/rust/src/raw.rs");
+}
+
+#[test]
+fn the_header_and_the_wrapper_have_the_same_limits() {
+    let header = fs::read_to_string(root().join("include/examiner.h")).expect("the header");
+    let defined = |name: &str| header.lines().find_map(|line| line.strip_prefix(&format!("#define EXAMINER_MOST_{name} "))?.parse().ok());
+    let limits = [
+        ("FUNCTIONS", examiner::MOST_FUNCTIONS),
+        ("VERTICES", examiner::MOST_VERTICES),
+        ("EDGES", examiner::MOST_EDGES),
+        ("LOOPS", examiner::MOST_LOOPS),
+        ("SHOWN", examiner::MOST_SHOWN),
+    ];
+    for (name, most) in limits {
+        assert_eq!(defined(name), Some(most), "EXAMINER_MOST_{name}");
+    }
 }
 
 /// The crates that a crate stands on, itself first, with the libraries of the kit that each uses.
