@@ -7,11 +7,15 @@ use std::time::{Duration, Instant};
 
 use examiner_tests::damage::file_of;
 use examiner_tests::drawings::drawn;
+use examiner_tests::evictions::{Shown, REASONS};
 use examiner_tests::problems::{lawful, Amounts, Plan};
 use examiner_tests::random::Random;
 use examiner_tests::walks;
 use reference::drawing::Numbers;
+use reference::eviction::Searched;
+use reference::examples::{longest_shown, WorkedEviction};
 use reference::fast;
+use reference::layout::check;
 use reference::problem::*;
 use reference::{Drawing, DrawnFunction};
 
@@ -206,6 +210,18 @@ fn bound(subject: &Subject) -> Times {
     })
 }
 
+fn eviction(subject: &Subject, vertex: u32) -> Times {
+    let vertex = u64::from(vertex);
+    let mut library_walk = [0; MOST_SHOWN];
+    let mut reference_walk = [0; MOST_SHOWN];
+    let library = examiner::eviction(&subject.file, &subject.layout, vertex, &mut library_walk).expect("accepted");
+    let reference = fast::eviction(&subject.file, &subject.layout, vertex, &mut reference_walk).expect("accepted");
+    assert_eq!((library.count, library_walk), (reference.count, reference_walk));
+    let (file, layout) = (&subject.file, &subject.layout);
+    let mut library = || _ = black_box(examiner::eviction(black_box(file), black_box(layout), vertex, black_box(&mut library_walk)));
+    measure(&mut library, &mut || _ = black_box(fast::eviction(black_box(file), black_box(layout), vertex, black_box(&mut reference_walk))))
+}
+
 /// By what part the library's Bound takes longer where the regions are filled in than where the same regions are listed. It is small beside
 /// the spread of the times, so each turn is taken by itself; it may come out negative.
 fn filling(short: &Subject, listed: &Subject) -> f64 {
@@ -244,6 +260,30 @@ fn rows_of_functions_apart(subject: &Subject) {
     row("Bound", &listed, bound(&listed), |_, _| "32 functions in 32 regions, all listed".to_string());
     let filling = 100.0 * filling(&empty, &listed);
     row("Bound", &empty, bound(&empty), |_, _| format!("32 functions, the empty layout: {filling:+.1} % on the row above"));
+}
+
+/// Eviction of the vertices whose walks are the longest: one charged on every visit in eight regions, and in a region for each function one
+/// charged as a first load and one never, where there is one.
+fn rows_of_evictions(subject: &Subject) {
+    let graph = Searched::new(&subject.problem);
+    let apart = subject.under(vec![]);
+    for (subject, reasons) in [(subject, &REASONS[..1]), (&apart, &REASONS[1..])] {
+        let (regions, _) = check(&subject.problem, &subject.layout).expect("accepted");
+        let all = Shown::all(&graph, &regions);
+        for reason in reasons {
+            let of_this = all.iter().filter(|shown| shown.reasons().contains(&(reason, true)));
+            let Some(shown) = of_this.max_by_key(|shown| shown.walk.len()) else { continue };
+            row("Eviction", subject, eviction(subject, shown.vertex), |_, _| format!("{reason}, by {} entries", shown.walk.len()));
+        }
+    }
+}
+
+/// Read and Eviction where the walk is the longest that there is.
+fn rows_of_the_longest_walk() {
+    let WorkedEviction { what, problem, layout, vertex, walk, .. } = longest_shown();
+    let subject = Subject { name: what.to_string(), file: file_of(&problem), problem, layout };
+    row("Read", &subject, read(&subject), |_, _| format!("{} bytes", subject.file.len()));
+    row("Eviction", &subject, eviction(&subject, vertex), |_, _| format!("{}, by {} entries", REASONS[0], walk.len()));
 }
 
 fn cell((library, reference): Times) -> String {
@@ -285,6 +325,9 @@ fn main() {
             format!("1,000,000 entries: {:.2} ns a step, reference {:.2}", library * 1e3, reference * 1e3)
         });
     }
+
+    subjects.iter().for_each(rows_of_evictions);
+    rows_of_the_longest_walk();
 
     println!("\n| operation | drawing | library | reference | ratio | the one problem |");
     println!("|---|---|---|---|---|---|");
