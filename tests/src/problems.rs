@@ -88,6 +88,17 @@ impl Plan {
         }
     }
 
+    /// A random plan of a kind that goes by the number of the case: of twenty, one has every count at its greatest, two are of any size, seven
+    /// have many functions, and ten are small.
+    pub fn of_any_size(random: &mut Random, case: usize) -> Plan {
+        match case % 20 {
+            0 => Plan::largest(random),
+            1 | 2 => Plan::medium(random),
+            3..=9 => Plan::branching(random, 24),
+            _ => Plan::small(random, 14),
+        }
+    }
+
     /// A random plan with every count at its greatest.
     pub fn largest(random: &mut Random) -> Plan {
         Plan {

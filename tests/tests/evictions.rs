@@ -51,11 +51,12 @@ fn a_buffer_needs_room_for_the_walk_alone() {
     for entries in 0..4 {
         assert_eq!(asked(&file, &[0, 0], 1, entries), (refused(RefusalKind::BufferTooShort, 4), vec![77; entries]));
     }
-    assert_eq!(asked(&file, &[0, 0], 1, 4).1, [0, 1, 2, 1]);
+    let shown = |function, count| Ok(Eviction { reason: Reason::EveryVisit { function }, count });
+    assert_eq!(asked(&file, &[0, 0], 1, 4), (shown(1, 4), vec![0, 1, 2, 1]));
     assert_eq!(asked(&file, &[0, 0], 3, 0).0, Ok(Eviction { reason: Reason::Never, count: 0 }));
 
     let longest = longest_shown();
     let file = file_of(&longest.problem);
     assert_eq!(asked(&file, &longest.layout, 127, 253), (refused(RefusalKind::BufferTooShort, 254), vec![77; 253]));
-    assert_eq!(asked(&file, &longest.layout, 127, 254).1, longest.walk);
+    assert_eq!(asked(&file, &longest.layout, 127, 254), (shown(1, 254), longest.walk));
 }

@@ -405,12 +405,7 @@ fn quick_methods_agree_with_plain_ones() {
     let mut random = Random::seeded(7);
     let mut hits = [0; 18];
     for case in 0..12_000 * effort() {
-        let plan = match case % 20 {
-            0 => Plan::largest(&mut random),
-            1 | 2 => Plan::medium(&mut random),
-            3..=9 => Plan::branching(&mut random, 24),
-            _ => Plan::small(&mut random, 14),
-        };
+        let plan = Plan::of_any_size(&mut random, case);
         let mut problem = lawful(&mut random, &plan);
         let layout = layouts::lawful(&mut random, plan.functions);
         layouts::fit_scratchpad(&mut random, &mut problem, &layout);

@@ -116,12 +116,7 @@ fn evictions_found_quickly() {
     let mut random = Random::seeded(15);
     let mut hits = [0; 22];
     for case in 0..1_200 * effort() {
-        let plan = match case % 20 {
-            0 => Plan::largest(&mut random),
-            1 | 2 => Plan::medium(&mut random),
-            3..=9 => Plan::branching(&mut random, 24),
-            _ => Plan::small(&mut random, 14),
-        };
+        let plan = Plan::of_any_size(&mut random, case);
         let mut problem = lawful(&mut random, &plan);
         let layout = layouts::any(&mut random, plan.functions);
         layouts::fit_scratchpad(&mut random, &mut problem, &layout);

@@ -57,6 +57,7 @@ pub fn evictions() -> Vec<WorkedEviction> {
     let dead = graph(2, &[0, 0, 1, 0], &[(0, 1), (0, 3), (1, 2), (2, 1)], &[(1, 2, 9)]);
     let once = Problem { loops: vec![Loop { header: 1, last: 2, bound: 1 }], ..r() };
     let chain = [(0, 1), (1, 2), (2, 3)];
+    let detour = [(0, 1), (1, 2), (1, 3), (2, 3)];
     let mut all = vec![
         worked(
             "first the function, then its walk",
@@ -83,6 +84,14 @@ pub fn evictions() -> Vec<WorkedEviction> {
             "a function that the region no longer holds",
             graph(3, &[0, 1, 2, 0], &chain, &[]),
             &[0, 0, 0],
+            3,
+            EveryVisit(1),
+            &[0, 1, 2, 3],
+        ),
+        worked(
+            "a visit since the latest one to the own function",
+            graph(2, &[1, 0, 1, 0], &detour, &[]),
+            &[0, 0],
             3,
             EveryVisit(1),
             &[0, 1, 2, 3],
