@@ -48,61 +48,46 @@ pub fn longest_shown() -> WorkedEviction {
     worked("the longest walk", graph(3, &functions, &edges, &[(0, 126, 2)]), &[0, 0, 1], 127, EveryVisit(1), &walk)
 }
 
-/// The worked evictions of request 5/14 and of its readings.
-pub fn evictions() -> Vec<WorkedEviction> {
-    let branches = [(0, 1), (0, 2), (1, 3), (2, 4), (3, 4), (4, 5)];
-    let from_the_start = [(0, 1), (0, 2), (1, 4), (2, 3), (3, 5), (4, 5)];
+/// Which function is named, and by which of several walks.
+fn of_branches() -> [WorkedEviction; 4] {
+    let chain = graph(3, &[0, 1, 2, 0], &[(0, 1), (1, 2), (2, 3)], &[]);
+    let detour = graph(2, &[1, 0, 1, 0], &[(0, 1), (1, 2), (1, 3), (2, 3)], &[]);
+    let longer_way = graph(4, &[3, 0, 2, 1, 2, 0], &[(0, 1), (0, 2), (1, 3), (2, 4), (3, 4), (4, 5)], &[]);
+    let crossing = graph(3, &[0, 1, 1, 2, 2, 0], &[(0, 1), (0, 2), (1, 4), (2, 3), (3, 5), (4, 5)], &[]);
+    [
+        worked("first the function, then its walk", longer_way, &[0, 0, 0, 1], 5, EveryVisit(1), &[0, 1, 3, 4, 5]),
+        worked("the first difference from the start", crossing, &[0, 0, 0], 5, EveryVisit(1), &[0, 1, 4, 5]),
+        worked("a function that the region no longer holds", chain, &[0, 0, 0], 3, EveryVisit(1), &[0, 1, 2, 3]),
+        worked("a visit since the latest one to the own function", detour, &[0, 0], 3, EveryVisit(1), &[0, 1, 2, 3]),
+    ]
+}
+
+/// Walks that come back: bounds and ways out play no part.
+fn of_loops() -> [WorkedEviction; 5] {
     let around = graph(3, &[2, 0, 1, 2], &[(0, 1), (1, 2), (2, 0), (2, 3)], &[(0, 2, 9)]);
     let header_first = graph(3, &[0, 1, 2], &[(0, 1), (1, 0), (1, 2)], &[(0, 1, 9)]);
     let dead = graph(2, &[0, 0, 1, 0], &[(0, 1), (0, 3), (1, 2), (2, 1)], &[(1, 2, 9)]);
     let once = Problem { loops: vec![Loop { header: 1, last: 2, bound: 1 }], ..r() };
-    let chain = [(0, 1), (1, 2), (2, 3)];
-    let detour = [(0, 1), (1, 2), (1, 3), (2, 3)];
-    let mut all = vec![
-        worked(
-            "first the function, then its walk",
-            graph(4, &[3, 0, 2, 1, 2, 0], &branches, &[]),
-            &[0, 0, 0, 1],
-            5,
-            EveryVisit(1),
-            &[0, 1, 3, 4, 5],
-        ),
-        worked(
-            "the first difference from the start",
-            graph(3, &[0, 1, 1, 2, 2, 0], &from_the_start, &[]),
-            &[0, 0, 0],
-            5,
-            EveryVisit(1),
-            &[0, 1, 4, 5],
-        ),
+    [
         worked("a walk that passes its vertex before", around, &[0, 0, 1], 1, EveryVisit(1), &[0, 1, 2, 0, 1]),
         worked("vertex 0, contested", header_first.clone(), &[0, 0, 1], 0, EveryVisit(1), &[0, 1, 0]),
         worked("vertex 0, a header and not contested", header_first, &[0, 1, 2], 0, FirstLoad, &[0]),
         worked("a loop without a way out", dead, &[0, 0], 1, EveryVisit(1), &[0, 1, 2, 1]),
         worked("a loop of bound 1", once, &[0, 0], 1, EveryVisit(1), &[0, 1, 2, 1]),
-        worked(
-            "a function that the region no longer holds",
-            graph(3, &[0, 1, 2, 0], &chain, &[]),
-            &[0, 0, 0],
-            3,
-            EveryVisit(1),
-            &[0, 1, 2, 3],
-        ),
-        worked(
-            "a visit since the latest one to the own function",
-            graph(2, &[1, 0, 1, 0], &detour, &[]),
-            &[0, 0],
-            3,
-            EveryVisit(1),
-            &[0, 1, 2, 3],
-        ),
+    ]
+}
+
+/// The worked evictions of request 5/14 and of its readings.
+pub fn evictions() -> Vec<WorkedEviction> {
+    let of_q_and_r = [
         worked("Q in one region", q(), &[0, 0], 3, EveryVisit(1), &[0, 1, 3]),
         worked("R in one region", r(), &[0, 0], 1, EveryVisit(1), &[0, 1, 2, 1]),
         worked("the last vertex of R", r(), &[0, 0], 3, Never, &[]),
-        longest_shown(),
     ];
-    all.extend(of_p("P with 0 1 1", [0, 1, 1], [FirstLoad, FirstLoad, Never, EveryVisit(1), Never, EveryVisit(2), Never]));
-    all.extend(of_p("P with 0 0 1", [0, 0, 1], [FirstLoad, EveryVisit(0), EveryVisit(1), FirstLoad, Never, EveryVisit(0), EveryVisit(1)]));
-    all.extend(of_p("P with a region for each", [0, 1, 2], [FirstLoad, FirstLoad, Never, FirstLoad, Never, Never, Never]));
-    all
+    let shared = [FirstLoad, FirstLoad, Never, EveryVisit(1), Never, EveryVisit(2), Never];
+    let shared_with_0 = [FirstLoad, EveryVisit(0), EveryVisit(1), FirstLoad, Never, EveryVisit(0), EveryVisit(1)];
+    let apart = [FirstLoad, FirstLoad, Never, FirstLoad, Never, Never, Never];
+    let all = of_branches().into_iter().chain(of_loops()).chain(of_q_and_r).chain([longest_shown()]);
+    let all = all.chain(of_p("P with 0 1 1", [0, 1, 1], shared)).chain(of_p("P with 0 0 1", [0, 0, 1], shared_with_0));
+    all.chain(of_p("P with a region for each", [0, 1, 2], apart)).collect()
 }
