@@ -8,14 +8,16 @@ use Rattle.model.specs.declared.Function.{Function}
 use Rattle.model.specs.declared.Problem.{Problem}
 use Rattle.model.specs.declared.BoundAnswer.{BoundAnswer}
 use Rattle.model.specs.declared.InterferenceAnswer.{InterferenceAnswer}
+use Rattle.model.specs.declared.EvictionAnswer.{EvictionAnswer}
 use Rattle.model.specs.Numbers.{Sized}
 use Rattle.model.specs.Operations.{SameProblem}
-use Rattle.model.specs.Results.{InterferenceSays, BoundSays}
+use Rattle.model.specs.Results.{InterferenceSays, BoundSays, EvictionSays}
 use Rattle.interference.proofs.Decided.{interference-decided}
 use Rattle.bound.proofs.Decided.{bound-decided}
-use Rattle.spare_results.proofs.Results.{interference-says-too, bound-says-too}
+use Rattle.eviction.proofs.Decided.{eviction-decided}
+use Rattle.spare_results.proofs.Results.{interference-says-too, bound-says-too, eviction-says-too}
 
--- Interference and Bound, whose contracts say what holds of the answer. (Of Write and Run, whose contracts are equations, Checks and Results say it.)
+-- Interference, Bound and Eviction, whose contracts say what holds of the answer. (Of Write and Run, whose contracts are equations, Checks and Results say it.)
 module _ (p q : Problem) (sized : Sized p) (sized′ : Sized q) (same : SameProblem p q) where
   pub interference-same : (words after after′ : List ℕ) → ((k : ℕ) → getD after k 0 < 2 ^ 32) → ((k : ℕ) → getD after′ k 0 < 2 ^ 32) →
       (r r′ : InterferenceAnswer) → InterferenceSays p words after r → InterferenceSays q words after′ r′ → (r ≡ r′) × (after ≡ after′)
@@ -24,6 +26,11 @@ module _ (p q : Problem) (sized : Sized p) (sized′ : Sized q) (same : SameProb
 
   pub bound-same : (layout : List ℕ) (r r′ : BoundAnswer) → BoundSays p layout r → BoundSays q layout r′ → r ≡ r′
   bound-same layout r r′ says says′ = bound-decided q layout r r′ (bound-says-too p q sized sized′ same layout r says) says′
+
+  pub eviction-same : (layout : List ℕ) (v : ℕ) (before after after′ : List ℕ) (r r′ : EvictionAnswer) → EvictionSays p layout v before after r →
+      EvictionSays q layout v before after′ r′ → (r ≡ r′) × (after ≡ after′)
+  eviction-same layout v before after after′ r r′ says says′ =
+      eviction-decided q layout v before after after′ r r′ (eviction-says-too p q sized sized′ same layout v before after r says) says′
 
 -- There are such records: whatever is stored in the place of a function past the count, the problem is the same. (A lawful problem is also the same as itself
 -- with every spare place zero, by `same-cleared` of roundtrip.)

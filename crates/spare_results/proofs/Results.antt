@@ -1,4 +1,4 @@
--- What the definitions of Interference, Bound and Run say of a problem they say of every record that is the same but for spare places.
+-- What the definitions of Interference, Bound, Run and Eviction say of a problem they say of every record that is the same but for spare places.
 use Prim.Native.Nat.{ℕ, _+_, _*_, _≤_, _<_}
 use mathlib.Core.Path.{_≡_, refl, sym, ap, _∙_}
 use mathlib.Core.List.{List, [], _∷_, reverse}
@@ -14,6 +14,9 @@ use Rattle.model.specs.declared.BoundAnswer.the-variants as bound
 use Rattle.model.specs.declared.InterferenceAnswer.{InterferenceAnswer}
 use Rattle.model.specs.declared.InterferenceAnswer.the-variants as interference
 use Rattle.model.specs.declared.RunAnswer.the-variants as run
+use Rattle.model.specs.declared.Reason.{Reason}
+use Rattle.model.specs.declared.EvictionAnswer.{EvictionAnswer}
+use Rattle.model.specs.declared.EvictionAnswer.the-variants as eviction
 use Rattle.model.specs.Zero.{cycles as cyclesOf}
 use Rattle.model.specs.Limits.{mostRegions}
 use Rattle.model.specs.Numbers.{table, Sized}
@@ -23,8 +26,10 @@ use Rattle.model.specs.Interference.{Interferes}
 use Rattle.model.specs.Charges.{Told, charges}
 use Rattle.model.specs.Runs.{held, hit, cycles, loads, heldNumber, heldAfter}
 use Rattle.model.specs.Operations.{SameProblem}
-use Rattle.model.specs.Verdicts.{judgeBound, judgeRun}
-use Rattle.model.specs.Results.{Member, Sets, InterferenceSays, boundLimit, BoundIs, PastTheLimit, BoundSays, runAfter, runWalk, regionsAfter, runRegions}
+use Rattle.model.specs.Graph.{andThen}
+use Rattle.model.specs.Evictions.{EvictionBy, EvictionIs}
+use Rattle.model.specs.Verdicts.{judgeBound, judgeRun, judgeVertex, judgeEviction}
+use Rattle.model.specs.Results.{Member, Sets, InterferenceSays, boundLimit, BoundIs, PastTheLimit, BoundSays, runAfter, runWalk, regionsAfter, runRegions, EvictionSays}
 use Rattle.model.proofs.Told.{told-alike}
 use Rattle.spare.proofs.Views.{same-load, same-function, same-cost, same-edge, same-words, same-need, same-charge, same-first, same-total}
 use Rattle.spare.proofs.Walks.{some-too, all-too, greatest-too, smaller-too}
@@ -120,3 +125,18 @@ module _ (p q : Problem) (sized : Sized p) (sized′ : Sized q) (same : SameProb
         at : (v : Verdict) → regionsAfter v p layout walk regions ≡ regionsAfter v q layout walk regions
         at verdict.Accepted = ap (table mostRegions) (same-held same layout (reverse walk))
         at (verdict.Refused f) = refl
+
+    module _ (v : ℕ) (before after : List ℕ) where
+      eviction-judged : judgeEviction q layout v ≡ judgeEviction p layout v
+      unfolding judgeEviction
+      eviction-judged = rw (judged, same .«vertex_count»)
+
+      explained-too : (reason : Reason) (walk : List ℕ) → EvictionIs p layout v reason walk → EvictionIs q layout v reason walk
+      explained-too reason walk is = coe 0 1 (i. EvictionBy (same-function same i) (same-edge same i) (regionOf layout) v reason walk) is
+
+      pub eviction-says-too : (r : EvictionAnswer) → EvictionSays p layout v before after r → EvictionSays q layout v before after r
+      eviction-says-too (eviction.Shown e) (good, (walk, is, count, room, stored)) =
+          (eviction-judged ∙ good, (walk, explained-too (e .reason) walk is, count, room, stored))
+      eviction-says-too (eviction.Refused f) (kept, inl refused) = (kept, inl (eviction-judged ∙ refused))
+      eviction-says-too (eviction.Refused f) (kept, inr (good, (reason, walk, is, short, told))) =
+          (kept, inr (eviction-judged ∙ good, (reason, walk, explained-too reason walk is, short, told)))

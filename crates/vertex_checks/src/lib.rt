@@ -9,7 +9,8 @@ ghost use Rattle.model.specs.Verdicts.{judgeVertex};
 pub fn judge_vertex(l: &Numbers, vertex: u64) -> Verdict
     ensures { λ r. ⌜ r ≡ judgeVertex (problemOf (now (l .entry))) vertex ⌝ }
 {
-    if vertex < lookup::vertex_count(l) as u64 {
+    let count = lookup::vertex_count(l) as u64;
+    if vertex < count {
         return Verdict::Accepted;
     }
     Verdict::Refused(Refusal::UnknownVertex(vertex))
