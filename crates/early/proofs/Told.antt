@@ -1,6 +1,6 @@
 -- Tables that hold what regions may hold and the first reach of a checked problem tell which vertices are contested or early and which functions are cold.
 use Prim.Native.Nat.{ℕ, _/_, _%_, _^_, _<_}
-use mathlib.Core.Path.{_≡_, sym, ap, _∙_}
+use mathlib.Core.Path.{_≡_, sym, _∙_}
 use mathlib.Core.List.{List}
 use mathlib.Core.Bool.{true}
 use mathlib.Core.Logic.{_↔_}
@@ -11,13 +11,12 @@ use borrow.Author.Tests.{eqb-true, eq-eqb, ltb-true, lt-ltb}
 use Rattle.model.specs.Numbers.{problemOf}
 use Rattle.model.specs.Operations.{Checked}
 use Rattle.model.specs.Costs.{functionOf}
-use Rattle.model.specs.Walks.{EdgeOf, Walk, start, step}
+use Rattle.model.specs.Walks.{EdgeOf}
 use Rattle.model.specs.Layouts.{regionOf}
 use Rattle.model.specs.Interference.{Contested}
 use Rattle.model.specs.Charges.{Told}
 use Rattle.model.specs.Results.{Member}
 use Rattle.model.proofs.Cases.{and-left}
-use Rattle.model.proofs.Lists.{index-of}
 use Rattle.lookup.proofs.Places.{facts, function-below}
 use Rattle.lookup.proofs.Walks.{walk-below}
 use Rattle.sound.specs.Decide.{earlyTest}

@@ -1,5 +1,5 @@
 -- Eviction's contract decides its answer and the lent walk: a vertex has one reason, and the reason one walk.
-use Prim.Native.Nat.{ℕ, _≤_, _<_}
+use Prim.Native.Nat.{ℕ}
 use mathlib.Core.Path.{_≡_, refl, sym, ap, subst, _∙_}
 use mathlib.Core.List.{List, List·Memᴰ}
 use mathlib.Core.Bool.{false}

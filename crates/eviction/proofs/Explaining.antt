@@ -3,8 +3,6 @@ use Prim.Native.Nat.{ℕ, _≤_, _<_}
 use mathlib.Core.Path.{_≡_, refl, subst}
 use mathlib.Core.List.{List, [], _∷_}
 use native.Mathlib.Omega.{arith}
-use lib.ListN.{length}
-use Rattle.model.specs.declared.Reason.{Reason}
 use Rattle.model.specs.declared.Reason.the-variants.{EveryVisit, FirstLoad, Never}
 use Rattle.model.specs.declared.EvictionAnswer.{EvictionAnswer}
 use Rattle.model.specs.declared.EvictionAnswer.the-variants.{Shown}

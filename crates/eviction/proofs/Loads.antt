@@ -1,16 +1,15 @@
 -- What a reason says of runs: the visit at the end of a walk that is shown loads, and where the reason is 3 no visit does.
 use Prim.Native.Nat.{ℕ}
-use mathlib.Core.Path.{_≡_, refl, sym, ap, subst, _∙_}
+use mathlib.Core.Path.{_≡_, ap, _∙_}
 use mathlib.Core.List.{List, _∷_, reverse, List·Memᴰ}
-use mathlib.Core.Bool.{Bool, true, false}
+use mathlib.Core.Bool.{true, false}
 use mathlib.Core.Option.{Option}
 use borrow.Author.Tests.{ne-eqb}
-use Rattle.model.specs.declared.Reason.{Reason}
 use Rattle.model.specs.declared.Reason.the-variants.{EveryVisit, FirstLoad, Never}
 use Rattle.model.specs.Walks.{Walk}
 use Rattle.model.specs.Interference.{since, occurs}
 use Rattle.model.specs.Runs.{held, isHeld, hit}
-use Rattle.model.specs.Evictions.{Shortest, EvictionBy}
+use Rattle.model.specs.Evictions.{EvictionBy}
 use Rattle.model.proofs.Cases.{by-bool}
 use Rattle.sound.proofs.Flow.{since-ne}
 use Rattle.sound.proofs.Held.{since-held, unvisited-unheld}

@@ -13,10 +13,10 @@ use Rattle.model.specs.Costs.{functionOf}
 use Rattle.model.specs.Layouts.{regionOf}
 use Rattle.model.specs.Places.{mostFunctions, mostVertices}
 use Rattle.model.specs.Walks.{EdgeOf, Walk}
-use Rattle.model.specs.Interference.{since, occurs, Contested, Fresh, Early}
+use Rattle.model.specs.Interference.{since, occurs, Contested, Fresh}
 use Rattle.model.specs.Evictions.{Shortest, Evicts, EvictionIs}
 use Rattle.model.specs.Results.{mostShown}
-use Rattle.lookup.proofs.Places.{facts, few-functions, few-vertices, function-below, vertex-small}
+use Rattle.lookup.proofs.Places.{facts, few-functions, function-below, vertex-small}
 use Rattle.lookup.proofs.Walks.{edge-below}
 use Rattle.flow.proofs.Reached.{reached}
 use Rattle.ways.specs.Ways.{noWay, steps, Falls, Distances}

@@ -1,10 +1,9 @@
 -- Eviction's answer is what its definition says for the stage that it stops at.
-use Prim.Native.Nat.{ℕ, _≤_}
+use Prim.Native.Nat.{ℕ}
 use mathlib.Core.Path.{_≡_, refl, sym, ap, subst, _∙_}
 use mathlib.Core.List.{List}
 use mathlib.Core.Logic.{inl, inr}
 use native.Mathlib.Omega.{arith}
-use lib.ListN.{length}
 use Rattle.model.specs.declared.Refusal.{Refusal}
 use Rattle.model.specs.declared.Verdict.{Verdict}
 use Rattle.model.specs.declared.Verdict.the-variants as verdict
@@ -20,7 +19,7 @@ use Rattle.model.specs.Costs.{functionOf}
 use Rattle.model.specs.Walks.{EdgeOf}
 use Rattle.model.specs.Evictions.{EvictionBy, EvictionIs}
 use Rattle.model.specs.Verdicts.{judgeBound, judgeVertex, judgeEviction}
-use Rattle.model.specs.Results.{mostShown, EvictionSays, EvictionFits}
+use Rattle.model.specs.Results.{EvictionSays, EvictionFits}
 use Rattle.model.specs.Outcomes.{evictionOutcome, Evicted}
 use Rattle.regions.specs.Regions.{KnownRegions}
 use Rattle.vertex_checks.proofs.Vertices.{passed-below}

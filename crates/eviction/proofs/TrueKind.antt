@@ -1,7 +1,7 @@
 -- The reason is the true kind: number 1 just where the vertex is contested, number 2 just where it is early, and a function is cold just where one of its vertices
 -- has number 2.
 use Prim.Native.Nat.{ℕ, _<_}
-use mathlib.Core.Path.{_≡_, refl, sym, subst, _∙_}
+use mathlib.Core.Path.{_≡_, refl}
 use mathlib.Core.List.{List}
 use mathlib.Core.Bool.{Bool, true}
 use mathlib.Core.Logic.{_↔_}

@@ -3,8 +3,6 @@
 mod longest;
 mod show;
 
-use model::Problem;
-use prints::text;
 
 fn cases_of_p() {
     show::each(b"P, layout 0 1 1:\n", samples::p(14), &[0, 1, 1], 7);

@@ -15,7 +15,7 @@ use Rattle.ways.specs.Ways.{phaseAfter, noWay, steps, turn, Nearest, Falls}
 use Rattle.ways.proofs.Turns.{first-steps}
 use Rattle.ways.proofs.Exact.{phase-low, back}
 use Rattle.ways.proofs.Known.{edges-small}
-use Rattle.following.specs.Following.{Seekable, Lowest, Followable, Followed}
+use Rattle.following.specs.Following.{Seekable, Lowest, Followable}
 
 module _ {l begins : List ℕ} {f g : ℕ} {d : List ℕ} {phase room : ℕ} (ready : Followable l begins f g d phase room) (base : List ℕ) where
   -- n entries behind vertex 0 stand in the buffer. They lead to u, met in phase s, from where as many steps are left.

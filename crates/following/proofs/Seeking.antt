@@ -1,19 +1,16 @@
 -- The first edge from u that leads to the number asked for leads to the lowest such vertex, since the edges from u ascend by their ends.
-use Prim.Native.Nat.{ℕ, zero, suc, _+_, _-_, _*_, _≤_, _<_}
-use mathlib.Core.Path.{_≡_, sym, ap, subst, _∙_}
+use Prim.Native.Nat.{ℕ, zero, suc, _+_, _-_, _≤_, _<_}
+use mathlib.Core.Path.{_≡_, ap, subst}
 use mathlib.Core.List.{List}
 use mathlib.Core.Bool.{true}
 use native.Mathlib.Omega.{arith}
-use lib.Dec.{ltb, eqb}
-use lib.ListN.{length, getD}
-use borrow.Author.Tests.{ltb-true, ne-eqb, eq-eqb, le-ltb}
+use lib.ListN.{getD}
+use borrow.Author.Tests.{ltb-true, eq-eqb, le-ltb}
 use Rattle.model.specs.declared.Edge.{Edge}
 use Rattle.model.specs.Zero.{zeroEdge}
 use Rattle.model.specs.Numbers.{problemOf}
-use Rattle.model.specs.Graph.{edgesOf}
 use Rattle.model.specs.File.{edgeBefore}
 use Rattle.model.specs.Walks.{EdgeOf}
-use Rattle.model.specs.Places as places
 use Rattle.model.proofs.Cases.{by-order, by-same}
 use Rattle.model.proofs.Lists.{index-of}
 use Rattle.lookup.proofs.Places.{facts, listed-edge, from-at, to-at}

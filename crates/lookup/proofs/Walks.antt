@@ -1,6 +1,6 @@
 -- The edges of a checked problem lead from vertices to vertices, and its walks stay among them.
 use Prim.Native.Nat.{ℕ, _<_}
-use mathlib.Core.Path.{_≡_, ap}
+use mathlib.Core.Path.{ap}
 use mathlib.Core.List.{List}
 use native.Mathlib.Omega.{arith}
 use Rattle.model.specs.declared.Edge.{Edge}

@@ -26,9 +26,8 @@ use Rattle.model.specs.Interference.{Interferes}
 use Rattle.model.specs.Charges.{Told, charges}
 use Rattle.model.specs.Runs.{held, hit, cycles, loads, heldNumber, heldAfter}
 use Rattle.model.specs.Operations.{SameProblem}
-use Rattle.model.specs.Graph.{andThen}
 use Rattle.model.specs.Evictions.{EvictionBy, EvictionIs}
-use Rattle.model.specs.Verdicts.{judgeBound, judgeRun, judgeVertex, judgeEviction}
+use Rattle.model.specs.Verdicts.{judgeBound, judgeRun, judgeEviction}
 use Rattle.model.specs.Results.{Member, Sets, InterferenceSays, boundLimit, BoundIs, PastTheLimit, BoundSays, runAfter, runWalk, regionsAfter, runRegions, EvictionSays}
 use Rattle.model.proofs.Told.{told-alike}
 use Rattle.spare.proofs.Views.{same-load, same-function, same-cost, same-edge, same-words, same-need, same-charge, same-first, same-total}

@@ -4,7 +4,7 @@ use Prim.Native.Nat.{ℕ, zero, suc, _+_, _*_, _≤_, _<_}
 use mathlib.Core.Path.{_≡_, refl, sym, subst}
 use mathlib.Core.List.{List, [], _∷_}
 use mathlib.Core.Bool.{Bool, true, false, cond}
-use mathlib.Core.Logic.{_⊎_, inl, inr}
+use mathlib.Core.Logic.{inl, inr}
 use native.Mathlib.Omega.{arith}
 use lib.Dec.{eqb}
 use lib.ListN.{length, getD}
@@ -12,9 +12,9 @@ use Rattle.model.specs.declared.Problem.{Problem}
 use Rattle.model.specs.Costs.{functionOf}
 use Rattle.model.specs.Places.{mostVertices}
 use Rattle.model.specs.Walks.{EdgeOf}
-use Rattle.model.specs.Evictions.{NotBehind, Ahead}
+use Rattle.model.specs.Evictions.{NotBehind}
 use Rattle.model.proofs.Cases.{by-order, by-same}
-use Rattle.ways.specs.Ways.{phaseAfter, mostStates, noWay, steps, turn, Nearest, Falls, Distances, Onward, Best}
+use Rattle.ways.specs.Ways.{phaseAfter, mostStates, noWay, steps, turn, Falls, Distances, Onward, Best}
 use Rattle.ways.proofs.Values.{values-few}
 
 pub phase-low : (f g k s : ℕ) → s < 2 → phaseAfter f g k s < 2

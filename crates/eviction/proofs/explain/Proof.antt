@@ -1,5 +1,4 @@
 -- `explain` finds the steps to v past no vertex of its own function, then the function that evicts, and shows the walk of the reason.
-use mathlib.Core.Path.{_≡_}
 use borrow.Author.Needs.{needs}
 use Rattle.lookup.proofs.Places.{facts}
 use Rattle.eviction.proofs.Explaining.{shares, every-leads, every-explained, first-leads, first-explained, never-explained}
