@@ -25,7 +25,7 @@ sum-set (w ∷ ws) (suc i) x h = omega (arith, sum-set ws i x (omega arith))
 pub unchanged : (ws : List ℕ) → Grown ws ws false
 unchanged ws = record { raised = omega arith; kept = λ k b h. h }
 
-pub one-or : (a b : Bool) → one (a || b) ≤ one a + one b
+one-or : (a b : Bool) → one (a || b) ≤ one a + one b
 one-or true b = omega arith
 one-or false b = omega arith
 

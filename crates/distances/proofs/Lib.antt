@@ -1,4 +1,6 @@
-pub mod Least
-pub mod Lowering
-pub mod Sweeping
-pub mod Resting
+pub mod Unnumbered
+pub mod Queued
+pub mod Searching
+pub mod Passing
+pub mod Starting
+pub mod Along

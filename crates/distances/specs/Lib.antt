@@ -1,1 +1,1 @@
-pub mod Lowering
+pub mod Searching

@@ -1,82 +1,136 @@
-// How many steps lead from each vertex, in each phase, to a goal: numbers that fall along the edges, from the highest vertex down, until nothing changes. A
-// problem is its checked numbers.
-use flow::Begins;
+// How many steps lead from each vertex, in each phase, to a goal: a search back from the goal along the edges, first come first served. A problem is
+// its checked numbers.
+use chains::EdgeTable;
 use model::Numbers;
+use model::places;
 use ways::MOST_STATES;
 use ways::NO_WAY;
 use ways::Steps;
-ghost use mathlib.Core.Path.{_≡_};
-ghost use Prim.Native.Nat.{_<_};
-ghost use lib.ListN.{length};
+ghost use Prim.Native.Nat.{_≤_, _<_};
+ghost use lib.ListN.{getD};
 ghost use Rattle.model.specs.Numbers.{problemOf};
 ghost use Rattle.model.specs.Operations.{Checked};
-ghost use Rattle.flow.specs.Starts.{Starts};
-ghost use Rattle.ways.specs.Ways.{mostStates, Distances};
-ghost use Rattle.distances.specs.Lowering.{Least, Lowered, Swept};
+ghost use Rattle.model.specs.Places.{mostVertices};
+ghost use Rattle.lookup.specs.Lists.{edgesIn};
+ghost use Rattle.greatest.specs.Numbers.{ends};
+ghost use Rattle.chains.specs.Chains.{edgeCount, EdgeChains};
+ghost use Rattle.ways.specs.Ways.{mostStates, noWay, Distances};
+ghost use Rattle.distances.specs.Searching.{Entered, Arriving, StartPassed, AllPassed};
 
-// The least number of the vertices behind u, met in phase t.
-fn least_behind(l: &Numbers, begins: &Begins, u: usize, t: usize, steps: &Steps) -> usize
-    requires { ⌜ Checked (now l) ⌝ ∗ ⌜ Starts (problemOf (now l)) (now begins) ⌝ ∗ ⌜ u < problemOf (now l) .«vertex_count» ⌝ ∗ ⌜ t < 2 ⌝ }
-    ensures { λ r. ⌜ Least (problemOf (now (l .entry))) (now (steps .entry)) u t r ⌝ }
+// The states that have a number, in the order in which they got it.
+type Queue = [usize; MOST_STATES];
+
+// A state that leads on as asked and has no number gets this one, and a place at the queue's end. Where the queue ends then.
+fn enter(
+    leads: bool,
+    state: usize,
+    number: usize,
+    steps: &mut Steps,
+    queue: &mut Queue,
+    end: usize,
+) -> usize
+    requires { ⌜ state < mostStates ⌝ ∗ ⌜ (noWay ≤ getD (now steps) state 0 → end < mostStates) ⌝ }
+    ensures { λ r. ⌜ Entered leads state number (now (steps .entry)) (now (queue .entry)) end (now (steps .exit)) (now (queue .exit)) r ⌝ }
 {
-    let last = begins[u + 1];
-    let mut least = NO_WAY;
-    let mut i = begins[u];
-    while i < last {
-        least = ways::smaller(least, steps[2 * lookup::edge_to(l, i) + t]);
-        i += 1;
+    if !leads {
+        return end;
     }
-    least
+    if steps[state] < NO_WAY {
+        return end;
+    }
+    steps[state] = number;
+    queue[end] = state;
+    end + 1
 }
 
-// The number of u, met in phase s, falls to one more than the least behind it, if that is less. Whether it did.
-fn lower(
+// The start of edge i, in each phase from which its visit leads to phase t.
+fn enter_start(
     l: &Numbers,
-    begins: &Begins,
     f: usize,
     g: usize,
-    u: usize,
-    s: usize,
+    i: usize,
+    t: usize,
+    number: usize,
     steps: &mut Steps,
-) -> bool
-    requires { ⌜ Checked (now l) ⌝ ∗ ⌜ Starts (problemOf (now l)) (now begins) ⌝ ∗ ⌜ u < problemOf (now l) .«vertex_count» ⌝ ∗ ⌜ s < 2 ⌝ }
-    requires { ⌜ length (now steps) ≡ mostStates ⌝ }
-    ensures { λ r. ⌜ Lowered (problemOf (now (l .entry))) f g u s (now (steps .entry)) (now (steps .exit)) r ⌝ }
+    queue: &mut Queue,
+    end: usize,
+) -> usize
+    requires { ⌜ i < edgeCount (now l) ⌝ ∗ ⌜ Arriving (now l) f g (ends (edgesIn (now l)) i) t number (now steps) (now queue) end ⌝ }
+    ensures { λ r. ⌜ StartPassed (now (l .entry)) f g i t number (now (steps .entry)) (now (queue .entry)) end (now (steps .exit)) (now (queue .exit)) r ⌝ }
 {
-    let t = ways::turn(f, g, lookup::function_of(l, u), s);
-    let least = least_behind(l, begins, u, t, steps);
-    if least + 1 < steps[2 * u + s] {
-        steps[2 * u + s] = least + 1;
-        return true;
-    }
-    false
+    let u = lookup::edge_from(l, i);
+    let k = lookup::function_of(l, u);
+    let last = enter(
+        ways::turn(f, g, k, 0) == t,
+        2 * u,
+        number,
+        steps,
+        queue,
+        end,
+    );
+    enter(
+        ways::turn(f, g, k, 1) == t,
+        2 * u + 1,
+        number,
+        steps,
+        queue,
+        last,
+    )
 }
 
-// Every vertex in both phases, the highest first, since most edges ascend. Whether any number fell.
-fn sweep(l: &Numbers, begins: &Begins, f: usize, g: usize, steps: &mut Steps) -> bool
-    requires { ⌜ Checked (now l) ⌝ ∗ ⌜ Starts (problemOf (now l)) (now begins) ⌝ ∗ ⌜ length (now steps) ≡ mostStates ⌝ }
-    ensures { λ r. ⌜ Swept (problemOf (now (l .entry))) f g 0 (now (steps .entry)) (now (steps .exit)) r ⌝ }
+// The starts of all edges to w, met in phase t.
+fn enter_before(
+    l: &Numbers,
+    edges: &EdgeTable,
+    f: usize,
+    g: usize,
+    w: usize,
+    t: usize,
+    number: usize,
+    steps: &mut Steps,
+    queue: &mut Queue,
+    end: usize,
+) -> usize
+    requires { ⌜ EdgeChains (now l) (now edges) ⌝ ∗ ⌜ w < mostVertices ⌝ ∗ ⌜ Arriving (now l) f g w t number (now steps) (now queue) end ⌝ }
+    ensures { λ r. ⌜ AllPassed (problemOf (now (l .entry))) f g w t number (now (steps .entry)) (now (queue .entry)) end (now (steps .exit)) (now (queue .exit)) r ⌝ }
 {
-    let mut changed = false;
-    let mut u = lookup::vertex_count(l);
-    while 0 < u {
-        u -= 1;
-        changed |= lower(l, begins, f, g, u, 1, steps);
-        changed |= lower(l, begins, f, g, u, 0, steps);
+    let mut last = end;
+    let mut next = edges[w];
+    while 0 < next {
+        let i = next - 1;
+        last = enter_start(l, f, g, i, t, number, steps, queue, last);
+        next = edges[places::MOST_VERTICES + i];
     }
-    changed
+    last
 }
 
 // The steps from each vertex in each phase to v in phase 1.
-pub fn distances(l: &Numbers, begins: &Begins, f: usize, g: usize, v: usize) -> Steps
-    requires { ⌜ Checked (now l) ⌝ ∗ ⌜ Starts (problemOf (now l)) (now begins) ⌝ ∗ ⌜ v < problemOf (now l) .«vertex_count» ⌝ }
+pub fn distances(l: &Numbers, edges: &EdgeTable, f: usize, g: usize, v: usize) -> Steps
+    requires { ⌜ Checked (now l) ⌝ ∗ ⌜ EdgeChains (now l) (now edges) ⌝ ∗ ⌜ v < problemOf (now l) .«vertex_count» ⌝ }
     ensures { λ r. ⌜ Distances (problemOf (now (l .entry))) f g v r ⌝ }
 {
     let mut steps = [NO_WAY; MOST_STATES];
+    let mut queue = [0usize; MOST_STATES];
     steps[2 * v + 1] = 0;
-    let mut changed = true;
-    while changed {
-        changed = sweep(l, begins, f, g, &mut steps);
+    queue[0] = 2 * v + 1;
+    let mut end: usize = 1;
+    let mut first: usize = 0;
+    while first < end {
+        let state = queue[first];
+        let number = steps[state] + 1;
+        end = enter_before(
+            l,
+            edges,
+            f,
+            g,
+            state / 2,
+            state % 2,
+            number,
+            &mut steps,
+            &mut queue,
+            end,
+        );
+        first += 1;
     }
     steps
 }

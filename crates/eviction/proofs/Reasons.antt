@@ -70,7 +70,8 @@ module _ {l regions : List ℕ} {v : ℕ} (ready : Explainable l regions v) wher
     pub named-evicts : g < mostFunctions → Evicts (functionOf p) (EdgeOf p) (regionOf regions) v g
     named-evicts some = at (lowest .one)
       where
-        at : (g ≡ mostFunctions) ⊎ ((u : ℕ) × (u < p .«vertex_count») × (g ≡ functionOf p u) × Comes p regions f free u) → Evicts (functionOf p) (EdgeOf p) (regionOf regions) v g
+        at : (g ≡ mostFunctions) ⊎ ((u : ℕ) × (u < p .«vertex_count») × (g ≡ functionOf p u) × Comes p regions f free u) →
+            Evicts (functionOf p) (EdgeOf p) (regionOf regions) v g
         at (inl none) = absurd (omega arith)
         at (inr (u, below, is, between)) =
             let (h, walk) = reached l (ready .checked) u below in

@@ -50,11 +50,12 @@ fn explain(l: &Numbers, regions: &[u8], v: usize, walk: &mut [u32]) -> EvictionA
     ensures { λ r. ⌜ Explained (problemOf (now (l .entry))) (now (regions .entry)) v (now (walk .entry)) (now (walk .exit)) r ⌝ }
 {
     let f = lookup::function_of(l, v);
+    let edges = chains::edge_chains(l);
     let begins = flow::starts(l);
-    let free = distances::distances(l, &begins, f, NO_FUNCTION, v);
+    let free = distances::distances(l, &edges, f, NO_FUNCTION, v);
     let g = evicting::lowest(l, regions, f, &free);
     if g < NO_FUNCTION {
-        let steps = distances::distances(l, &begins, f, g, v);
+        let steps = distances::distances(l, &edges, f, g, v);
         return show(l, &begins, f, g, &steps, 0, Reason::EveryVisit(g), walk);
     }
     if free[1] < NO_WAY {

@@ -3,7 +3,6 @@
 mod longest;
 mod show;
 
-
 fn cases_of_p() {
     show::each(b"P, layout 0 1 1:\n", samples::p(14), &[0, 1, 1], 7);
     show::each(b"P, layout 0 0 1:\n", samples::p(14), &[0, 0, 1], 7);

@@ -45,7 +45,9 @@ module _ {l begins : List ℕ} {u : ℕ} (edges : EdgesFrom l begins u) where
   not-lower zero i here there = let e : i + zero ≡ i = omega arith in rw e (omega arith)
   not-lower (suc k) i here there =
       let e : i + suc k ≡ i + k + 1 = omega arith in
-      rw e (omega (arith, not-lower k i here (omega (arith, here .0), omega (arith, there .1)), next-higher (i + k) (omega (arith, here .0), omega (arith, there .1)) (omega (arith, here .0), omega (arith, there .1))))
+      let before : Here (i + k) = (omega (arith, here .0), omega (arith, there .1)) in
+      let last : Here (i + k + 1) = (omega (arith, here .0), omega (arith, there .1)) in
+      rw e (omega (arith, not-lower k i here before, next-higher (i + k) before last))
 
   ends-ascend : (i j : ℕ) → i ≤ j → Here i → Here j → to (problemOf l) i ≤ to (problemOf l) j
   ends-ascend i j up here there = let e : i + (j - i) ≡ j = omega arith in rw e at (not-lower (j - i) i here (rw e there))
@@ -90,7 +92,8 @@ module _ {l begins : List ℕ} {u : ℕ} (edges : EdgesFrom l begins u) where
         pub seek-on : Seeking (i + 1)
         seek-on = record {
           first = omega (arith, seeking .first);
-          missed = λ j low high e. by-same j i (λ q. miss (subst (λ (x : ℕ). steps d (to (problemOf l) x) t ≡ k) q e)) (λ ne. seeking .missed j low (omega arith) e);
+          missed = λ j low high e.
+              by-same j i (λ q. miss (subst (λ (x : ℕ). steps d (to (problemOf l) x) t ≡ k) q e)) (λ ne. seeking .missed j low (omega arith) e);
           hit = seeking .hit;
           later = by-same (seeking .hit) i (λ e. absurd (past e)) (λ ne. omega (arith, seeking .later));
           last = seeking .last;

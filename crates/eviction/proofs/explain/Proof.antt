@@ -10,7 +10,7 @@ abbrev entry : tie.After-function-of → tie.Start
 entry c = c .before .before .before
 
 abbrev own : tie.After-starts → tie.After-function-of
-own c = c .before
+own c = c .before .before
 
 abbrev begun : tie.After-distances → tie.After-starts
 begun c = c .before .before
@@ -23,6 +23,9 @@ opened c = own (begun (free c))
 
 function-of-requires : tie.Need-function-of-requires
 function-of-requires c κs = let pre = c .before .before .pre in (facts _ (pre .checked), pre .there)
+
+edge-chains-requires : tie.Need-edge-chains-requires
+edge-chains-requires c κs = search needs
 
 starts-requires : tie.Need-starts-requires
 starts-requires c κs = search needs
@@ -101,6 +104,7 @@ explain-spec =
     tie.close
     (tie.spec
     function-of-requires
+    edge-chains-requires
     starts-requires
     distances-requires
     lowest-requires
