@@ -188,6 +188,10 @@ pub search-over : {p : Problem} {f g v : ℕ} {d queue : List ℕ} {first end : 
     Distances p f g v d
 search-over {p} {f} {g} {v} {d} {queue} small now over = record {
   nearing = now .nearing;
+  few = λ u s there low less.
+      let (k, before, is) = now .queued .all (2 * u + s) (omega arith) less in
+      let same : numberAt d queue k ≡ steps d u s = rw is in
+      omega (arith, now .queued .low k before, now .queued .room);
   settled = λ u s low w edge.
       let t = turn p f g s u in
       let t-low : turn p f g s u < 2 = phase-low f g (functionOf p u) s low in

@@ -3,7 +3,8 @@ use model::Numbers;
 use model::places;
 use ways::NO_WAY;
 use ways::Steps;
-ghost use Prim.Native.Nat.{_<_};
+ghost use mathlib.Core.Path.{_≡_};
+ghost use Prim.Native.Nat.{_<_, min};
 ghost use Rattle.model.specs.Numbers.{problemOf};
 ghost use Rattle.evicting.specs.Evicting.{Sharing, Named, Lowest};
 
@@ -28,6 +29,12 @@ fn named(l: &Numbers, regions: &[u8], f: usize, steps: &Steps, u: usize) -> usiz
     NO_FUNCTION
 }
 
+fn smaller(a: usize, b: usize) -> usize
+    ensures { λ r. ⌜ r ≡ min a b ⌝ }
+{
+    if b < a { b } else { a }
+}
+
 // The lowest function that a vertex names.
 pub fn lowest(l: &Numbers, regions: &[u8], f: usize, steps: &Steps) -> usize
     requires { ⌜ Sharing (now l) (now regions) f ⌝ }
@@ -37,7 +44,7 @@ pub fn lowest(l: &Numbers, regions: &[u8], f: usize, steps: &Steps) -> usize
     let mut least = NO_FUNCTION;
     let mut u: usize = 0;
     while u < count {
-        least = ways::smaller(least, named(l, regions, f, steps, u));
+        least = smaller(least, named(l, regions, f, steps, u));
         u += 1;
     }
     least

@@ -20,7 +20,7 @@ use Rattle.lookup.proofs.Places.{facts, few-functions, function-below, vertex-s
 use Rattle.lookup.proofs.Walks.{edge-below}
 use Rattle.flow.proofs.Reached.{reached}
 use Rattle.ways.specs.Ways.{noWay, steps, Falls, Distances}
-use Rattle.ways.proofs.Exact.{way-short, falls-long, falls-best}
+use Rattle.ways.proofs.Exact.{falls-long, falls-best}
 use Rattle.ways.proofs.Phases.{phase, arrives-way, best-shortest, phase-since, phase-fresh}
 use Rattle.ways.proofs.Free.{free-interferes, interferes-free, fresh-free}
 use Rattle.ways.proofs.Known.{edges-small, no-function}
@@ -50,7 +50,7 @@ module _ {l regions : List ℕ} {v : ℕ} (ready : Explainable l regions v) wher
     pub shown-few : steps d 0 s < noWay → (ws : List ℕ) → Falls p f g d s 0 ws → length (0 ∷ ws) ≤ mostShown
     shown-few way ws falls =
         let small = edges-small l (ready .checked) in
-        omega (arith, falls-long p f g v d small rest ws s 0 falls, way-short p f g v d small rest 0 s first-there low way)
+        omega (arith, falls-long p f g v d small rest ws s 0 falls, rest .few 0 s first-there low way)
 
   module _ (free : List ℕ) (rest : Distances p f mostFunctions v free) (g : ℕ) (lowest : Lowest p regions f free (p .«vertex_count») g) where
     -- A function that evicts is that of a vertex which comes between.

@@ -1,21 +1,20 @@
 -- Numbers at rest are exact, and a walk that always takes the lowest vertex one nearer has the fewest entries, then the smallest number at the first
 -- difference.
-use Prim.Native.Nat.{ℕ, zero, suc, _+_, _*_, _≤_, _<_}
-use mathlib.Core.Path.{_≡_, refl, sym, subst}
+use Prim.Native.Nat.{ℕ, suc, _≤_, _<_}
+use mathlib.Core.Path.{_≡_, sym, subst}
 use mathlib.Core.List.{List, [], _∷_}
 use mathlib.Core.Bool.{Bool, true, false, cond}
 use mathlib.Core.Logic.{inl, inr}
 use native.Mathlib.Omega.{arith}
 use lib.Dec.{eqb}
-use lib.ListN.{length, getD}
+use lib.ListN.{length}
 use Rattle.model.specs.declared.Problem.{Problem}
 use Rattle.model.specs.Costs.{functionOf}
 use Rattle.model.specs.Places.{mostVertices}
 use Rattle.model.specs.Walks.{EdgeOf}
 use Rattle.model.specs.Evictions.{NotBehind}
-use Rattle.model.proofs.Cases.{by-order, by-same}
-use Rattle.ways.specs.Ways.{phaseAfter, mostStates, noWay, steps, turn, Falls, Distances, Onward, Best}
-use Rattle.ways.proofs.Values.{values-few}
+use Rattle.model.proofs.Cases.{by-order}
+use Rattle.ways.specs.Ways.{phaseAfter, noWay, steps, turn, Falls, Distances, Onward, Best}
 
 pub phase-low : (f g k s : ℕ) → s < 2 → phaseAfter f g k s < 2
 unfolding phaseAfter
@@ -36,24 +35,10 @@ module _ (p : Problem) (f g v : ℕ) (d : List ℕ) (small : EdgesSmall p) (D : 
   back u s k there low is less =
       let (w, edge, near) = D .nearing .support u s k there low is less in (w, edge, omega (arith, D .settled u s low w edge))
 
-  -- So every number below a state's own stands in the table.
-  values : (k u s : ℕ) → u < mostVertices → s < 2 → steps d u s ≡ k → k < noWay → (j : ℕ) → j < suc k → (i : ℕ) × (i < length d) × (getD d i 0 ≡ j)
-  values zero u s there low is less j below = (2 * u + s, omega (arith, D .nearing .long), omega arith)
-  values (suc k) u s there low is less j below =
-      by-same j (suc k) (λ e. (2 * u + s, omega (arith, D .nearing .long), omega arith))
-      (λ ne.
-      let (w, edge, near) = back u s k there low is less in
-      values k w (turn p f g s u) (small u w edge .1) (phase-low f g (functionOf p u) s low) near (omega arith) j (omega arith))
-
-  -- A way that there is has fewer steps than there are states.
-  pub way-short : (u s : ℕ) → u < mostVertices → s < 2 → steps d u s < noWay → steps d u s < mostStates
-  way-short u s there low less =
-      omega (arith, values-few (suc (steps d u s)) d (values (steps d u s) u s there low refl less), D .nearing .long)
-
   -- From the start of an edge to where there is a way, there is one.
   pub way-before : (u s w : ℕ) → s < 2 → EdgeOf p u w → steps d w (turn p f g s u) < noWay → steps d u s < noWay
   way-before u s w low edge less =
-      omega (arith, D .settled u s low w edge, way-short w (turn p f g s u) (small u w edge .1) (phase-low f g (functionOf p u) s low) less)
+      omega (arith, D .settled u s low w edge, D .few w (turn p f g s u) (small u w edge .1) (phase-low f g (functionOf p u) s low) less)
 
   -- Where a way goes on, the numbers tell of one that is no longer.
   pub way-found : (xs : List ℕ) (u s : ℕ) → s < 2 → Onward p f g v s u xs → (steps d u s < noWay) × (steps d u s ≤ length xs)

@@ -1,6 +1,5 @@
 pub mod Turns
 pub mod Ahead
-pub mod Values
 pub mod Exact
 pub mod Phases
 pub mod Free

@@ -48,7 +48,7 @@ module _ (p : Problem) (f g : ℕ) where
   Falls d s u (w ∷ ws) = Nearest d s u w × Falls d (turn s u) w ws
 
   module _ (v : ℕ) where
-    -- Numbers on their way down: no number is below the steps that its state needs, since each has a support that is nearer.
+    -- Numbers on the way: no number is below the steps that its state needs, since each has a support that is nearer.
     pub record Nearing (d : List ℕ) : Type 0 where
       pub long : length d ≡ mostStates
       pub most : (u s : ℕ) → u < mostVertices → s < 2 → steps d u s ≤ noWay
@@ -57,9 +57,10 @@ module _ (p : Problem) (f g : ℕ) where
       pub support : (u s k : ℕ) → u < mostVertices → s < 2 → steps d u s ≡ suc k → suc k < noWay →
           (w : ℕ) × EdgeOf p u w × (steps d w (turn s u) ≤ k)
 
-    -- Numbers at rest.
+    -- Numbers at rest. A way that there is has fewer steps than there are states.
     pub record Distances (d : List ℕ) : Type 0 where
       pub nearing : Nearing d
+      pub few : (u s : ℕ) → u < mostVertices → s < 2 → steps d u s < noWay → steps d u s < mostStates
       pub settled : (u s : ℕ) → s < 2 → Settled d u s
 
     -- ws goes on from u, met in phase s, and its end (u itself if ws is empty) is the goal.

@@ -2,7 +2,6 @@
 // always takes the lowest vertex one nearer is the one asked for, and what the numbers tell of interference and first reach.
 use model::places;
 ghost use mathlib.Core.Path.{_≡_};
-ghost use Prim.Native.Nat.{min};
 ghost use Rattle.ways.specs.Ways.{phaseAfter};
 
 // A vertex in each of two phases.
@@ -25,11 +24,4 @@ pub fn turn(f: usize, g: usize, k: usize, s: usize) -> usize
         return 1;
     }
     s
-}
-
-// The smaller of two numbers, of steps or of functions.
-pub fn smaller(a: usize, b: usize) -> usize
-    ensures { λ r. ⌜ r ≡ min a b ⌝ }
-{
-    if b < a { b } else { a }
 }
