@@ -44,7 +44,7 @@ fn show(
 }
 
 // The reason for v under regions that list every function. The steps to v past no vertex of its own function tell which functions come between, and whether
-// vertex 0 is one such step away; where a function is named, the way that visits it is looked for by itself.
+// a way leads there from vertex 0. Where a function is named, the shortest way by it takes a search of its own.
 fn explain(l: &Numbers, regions: &[u8], v: usize, walk: &mut [u32]) -> EvictionAnswer
     requires { ⌜ Explainable (now l) (now regions) v ⌝ }
     ensures { λ r. ⌜ Explained (problemOf (now (l .entry))) (now (regions .entry)) v (now (walk .entry)) (now (walk .exit)) r ⌝ }
