@@ -15,12 +15,11 @@ use Rattle.model.specs.Numbers.{problemOf}
 use Rattle.model.specs.Operations.{Checked}
 use Rattle.model.specs.Graph.{andThen}
 use Rattle.model.specs.Layouts.{regionOf}
-use Rattle.model.specs.Costs.{functionOf}
-use Rattle.model.specs.Walks.{EdgeOf}
-use Rattle.model.specs.Evictions.{EvictionBy, EvictionIs}
+use Rattle.model.specs.Evictions.{EvictionIs}
 use Rattle.model.specs.Verdicts.{judgeBound, judgeVertex, judgeEviction}
 use Rattle.model.specs.Results.{EvictionSays, EvictionFits}
 use Rattle.model.specs.Outcomes.{evictionOutcome, Evicted}
+use Rattle.model.proofs.Evictions.{explained-alike}
 use Rattle.regions.specs.Regions.{KnownRegions}
 use Rattle.vertex_checks.proofs.Vertices.{passed-below}
 use Rattle.eviction.specs.Showing.{Lent, Explainable, Explained}
@@ -53,7 +52,7 @@ module _ (p : Problem) (layout : List ℕ) (v : ℕ) where
 
       -- What explains the vertex by its regions, filled in, explains it by the layout.
       alike : (reason : Reason) (walk : List ℕ) → EvictionIs p regions v reason walk → EvictionIs p layout v reason walk
-      alike reason walk = subst (λ (region : ℕ → ℕ). EvictionBy (functionOf p) (EdgeOf p) region v reason walk) same
+      alike = explained-alike p p regions layout refl refl same v
 
       pub explained : (r : EvictionAnswer) → Explained p regions v before after r → Says before after r
       unfolding Lent

@@ -1,4 +1,4 @@
--- Bound and Run say the same of a layout and of its filled-in one; the bound of an accepted layout covers every lawful walk under the filled-in one.
+-- Bound, Run and Eviction say the same of a layout and of its filled-in one; the bound of an accepted layout covers every lawful walk under the filled-in one.
 use Prim.Native.Nat.{ℕ, _≤_}
 use mathlib.Core.Path.{_≡_, refl, sym, ap, _∙_}
 use mathlib.Core.List.{List, [], _∷_, reverse}
@@ -16,6 +16,7 @@ use Rattle.model.specs.declared.Bound.{Bound}
 use Rattle.model.specs.declared.BoundAnswer.{BoundAnswer}
 use Rattle.model.specs.declared.BoundAnswer.the-variants.{Bounded, Refused}
 use Rattle.model.specs.declared.RunAnswer.the-variants as run
+use Rattle.model.specs.declared.EvictionAnswer.{EvictionAnswer}
 use Rattle.model.specs.Zero.{cycles as cyclesOf}
 use Rattle.model.specs.Limits.{mostRegions}
 use Rattle.model.specs.Numbers.{table}
@@ -23,9 +24,10 @@ use Rattle.model.specs.Graph.{andThen}
 use Rattle.model.specs.Walks.{lastVertex, Lawful}
 use Rattle.model.specs.Layouts.{filledIn, regionOf, judgeLength, judgeNeed, judgeLayout}
 use Rattle.model.specs.Runs.{cycles}
-use Rattle.model.specs.Verdicts.{judgeProblem, judgeBound, walkLimit, judgeWalk, judgeRun}
-use Rattle.model.specs.Results.{BoundSays, runAfter, runWalk, regionsAfter, runRegions}
+use Rattle.model.specs.Verdicts.{judgeProblem, judgeBound, walkLimit, judgeWalk, judgeRun, judgeVertex, judgeEviction}
+use Rattle.model.specs.Results.{BoundSays, runAfter, runWalk, regionsAfter, runRegions, EvictionSays}
 use Rattle.model.proofs.Cases.{by-bool}
+use Rattle.model.proofs.Evictions.{eviction-alike}
 use Rattle.model.proofs.Answers.{accepted-both, refused-not-accepted}
 use Rattle.filled.proofs.Filled.{filled-length, same-regions}
 use Rattle.regions.specs.Regions.{ListsAll}
@@ -74,6 +76,17 @@ module _ (p : Problem) (layout : List ℕ) (short : length layout ≤ p .«funct
 
   pub filled-bound : (r : BoundAnswer) → BoundSays p layout r ↔ BoundSays p filled-layout r
   filled-bound r = (says-alike p layout filled-layout (sym same) same-judged r, says-alike p filled-layout layout same (sym same-judged) r)
+
+  same-eviction : (v : ℕ) → judgeEviction p filled-layout v ≡ judgeEviction p layout v
+  unfolding judgeEviction
+  same-eviction v = λ i. andThen (same-judged i) (judgeVertex p v)
+
+  pub filled-eviction : (v : ℕ) (before after : List ℕ) (r : EvictionAnswer) →
+      EvictionSays p layout v before after r ↔ EvictionSays p filled-layout v before after r
+  filled-eviction v before after r = (
+    eviction-alike p p layout filled-layout refl refl (sym same) v (same-eviction v) before after r,
+    eviction-alike p p filled-layout layout refl refl same v (sym (same-eviction v)) before after r,
+  )
 
   module _ (walk : List ℕ) where
     same-run : judgeRun p filled-layout walk ≡ judgeRun p layout walk

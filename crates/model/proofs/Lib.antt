@@ -6,3 +6,4 @@ pub mod Answers
 pub mod Filling
 pub mod Copies
 pub mod Told
+pub mod Evictions

@@ -14,9 +14,7 @@ use Rattle.model.specs.declared.BoundAnswer.the-variants as bound
 use Rattle.model.specs.declared.InterferenceAnswer.{InterferenceAnswer}
 use Rattle.model.specs.declared.InterferenceAnswer.the-variants as interference
 use Rattle.model.specs.declared.RunAnswer.the-variants as run
-use Rattle.model.specs.declared.Reason.{Reason}
 use Rattle.model.specs.declared.EvictionAnswer.{EvictionAnswer}
-use Rattle.model.specs.declared.EvictionAnswer.the-variants as eviction
 use Rattle.model.specs.Zero.{cycles as cyclesOf}
 use Rattle.model.specs.Limits.{mostRegions}
 use Rattle.model.specs.Numbers.{table, Sized}
@@ -26,10 +24,10 @@ use Rattle.model.specs.Interference.{Interferes}
 use Rattle.model.specs.Charges.{Told, charges}
 use Rattle.model.specs.Runs.{held, hit, cycles, loads, heldNumber, heldAfter}
 use Rattle.model.specs.Operations.{SameProblem}
-use Rattle.model.specs.Evictions.{EvictionBy, EvictionIs}
 use Rattle.model.specs.Verdicts.{judgeBound, judgeRun, judgeEviction}
 use Rattle.model.specs.Results.{Member, Sets, InterferenceSays, boundLimit, BoundIs, PastTheLimit, BoundSays, runAfter, runWalk, regionsAfter, runRegions, EvictionSays}
 use Rattle.model.proofs.Told.{told-alike}
+use Rattle.model.proofs.Evictions.{eviction-alike}
 use Rattle.spare.proofs.Views.{same-load, same-function, same-cost, same-edge, same-words, same-need, same-charge, same-first, same-total}
 use Rattle.spare.proofs.Walks.{some-too, all-too, greatest-too, smaller-too}
 use Rattle.spare.proofs.Checks.{same-interference, same-bound, same-run}
@@ -125,17 +123,9 @@ module _ (p q : Problem) (sized : Sized p) (sized′ : Sized q) (same : SameProb
         at verdict.Accepted = ap (table mostRegions) (same-held same layout (reverse walk))
         at (verdict.Refused f) = refl
 
-    module _ (v : ℕ) (before after : List ℕ) where
-      eviction-judged : judgeEviction q layout v ≡ judgeEviction p layout v
-      unfolding judgeEviction
-      eviction-judged = rw (judged, same .«vertex_count»)
+    eviction-judged : (v : ℕ) → judgeEviction q layout v ≡ judgeEviction p layout v
+    unfolding judgeEviction
+    eviction-judged v = rw (judged, same .«vertex_count»)
 
-      explained-too : (reason : Reason) (walk : List ℕ) → EvictionIs p layout v reason walk → EvictionIs q layout v reason walk
-      explained-too reason walk is = coe 0 1 (i. EvictionBy (same-function same i) (same-edge same i) (regionOf layout) v reason walk) is
-
-      pub eviction-says-too : (r : EvictionAnswer) → EvictionSays p layout v before after r → EvictionSays q layout v before after r
-      eviction-says-too (eviction.Shown e) (good, (walk, is, count, room, stored)) =
-          (eviction-judged ∙ good, (walk, explained-too (e .reason) walk is, count, room, stored))
-      eviction-says-too (eviction.Refused f) (kept, inl refused) = (kept, inl (eviction-judged ∙ refused))
-      eviction-says-too (eviction.Refused f) (kept, inr (good, (reason, walk, is, short, told))) =
-          (kept, inr (eviction-judged ∙ good, (reason, walk, explained-too reason walk is, short, told)))
+    pub eviction-says-too : (v : ℕ) (before after : List ℕ) (r : EvictionAnswer) → EvictionSays p layout v before after r → EvictionSays q layout v before after r
+    eviction-says-too v = eviction-alike p q layout layout (same-function same) (same-edge same) refl v (eviction-judged v)
