@@ -1,4 +1,5 @@
 pub mod Ends
+pub mod Files
 pub mod Reading
 pub mod Writing
 pub mod Prefix

@@ -1,4 +1,5 @@
--- Read and Write undo each other: an accepted file is written again as it was, and a lawful problem, written, is read as itself.
+-- Read and Write undo each other, but for padding: the files that are read as a problem are its files, padded or not, and what is written is the shortest of
+-- them. A lawful problem, written, is read as itself.
 use Prim.Native.Nat.{ℕ, _+_, _≤_, _<_}
 use mathlib.Core.Path.{_≡_, refl, sym, ap, subst, _∙_}
 use mathlib.Core.List.{List, _++_}
@@ -15,17 +16,20 @@ use Rattle.model.specs.declared.ReadAnswer.the-variants as read
 use Rattle.model.specs.declared.WriteAnswer.{WriteAnswer}
 use Rattle.model.specs.declared.WriteAnswer.the-variants.{Written}
 use Rattle.model.specs.Numbers.{numbersOf, problemOf, Sized}
-use Rattle.model.specs.File.{numberCount, Scan, scanned, readFields, checkFields, fileBytes, cleared}
+use Rattle.model.specs.File.{numberCount, firstField, Scan, scanned, readFields, checkFields, fileBytes, cleared}
 use Rattle.model.specs.Graph.{judgeGraph}
 use Rattle.model.specs.Operations.{readVerdict, readRest, readFile, SameProblem, clearedProblem, checkProblem, writeChecked, writeProblem, afterWrite, writtenBuffer}
 use Rattle.numbers.proofs.Inverse.{numbers-of-problem, sized-problem}
 use Rattle.facts.proofs.Judging.{checked-good}
 use Rattle.facts.proofs.Facts.{good-facts}
 use Rattle.facts.proofs.Cleared.{fill-cleared}
-use Rattle.roundtrip.proofs.Reading.{FileAgain, file-again}
-use Rattle.roundtrip.proofs.Writing.{ReadAgain, read-again}
+use Rattle.roundtrip.specs.Files.{Padded, FileOf, shortFile}
+use Rattle.roundtrip.proofs.Ends.{judged-ends}
+use Rattle.roundtrip.proofs.Files.{unpadded, no-shorter, padded-bytes}
+use Rattle.roundtrip.proofs.Reading.{FileRead, fields-file}
+use Rattle.roundtrip.proofs.Writing.{fields-back}
 use Rattle.roundtrip.proofs.Same.{same-judged, same-checked}
-use Rattle.roundtrip.proofs.Answers.{Whole, whole, good-problem, is-checked, Roomy, has-room}
+use Rattle.roundtrip.proofs.Answers.{Whole, whole, GoodProblem, good-problem, is-checked, Roomy, has-room}
 
 -- Writing a lawful problem where there is room for it.
 module _ (p : Problem) (buf : List ℕ) (need : ℕ) (checked : checkProblem p ≡ Done need) (room : need ≤ length buf) where
@@ -33,121 +37,145 @@ module _ (p : Problem) (buf : List ℕ) (need : ℕ) (checked : checkProblem p �
   unfolding writeProblem
   writes = ap (λ (f : FieldsAnswer). writeChecked f (length buf)) checked ∙ simp (le-ltb (length buf) need room)
 
-  stores : (s : List ℕ) → fileBytes (numbersOf p) ≡ s → length s ≡ need → writtenBuffer p buf ≡ s ++ drop need buf
-  stores s is long =
-      let end : 0 + length s ≡ need = omega arith in
+  stores : length (shortFile p) ≡ need → writtenBuffer p buf ≡ shortFile p ++ drop need buf
+  stores long =
+      let end : 0 + length (shortFile p) ≡ need = omega arith in
       ap (λ (a : WriteAnswer). afterWrite a p buf) writes
-      ∙ ap (λ (b : List ℕ). sets buf 0 b) is
-      ∙ sets-eq s buf 0 (omega arith)
-      ∙ ap (λ (k : ℕ). s ++ drop k buf) end
+      ∙ sets-eq (shortFile p) buf 0 (omega arith)
+      ∙ ap (λ (k : ℕ). shortFile p ++ drop k buf) end
 
--- The bytes s are accepted as the problem p: they are its file, and its spare places are zero.
+-- The bytes s are accepted as the problem p: they are a file of it, and its spare places are zero.
 pub record ReadAs (s : List ℕ) (p : Problem) : Type 0 where
   pub sized : Sized p
-  pub bytes : fileBytes (numbersOf p) ≡ s
-  pub checked : checkProblem p ≡ Done (length s)
+  pub file : FileOf p s
+  pub checked : checkProblem p ≡ Done (length (shortFile p))
   pub spare : clearedProblem p ≡ p
 
--- The problem p, written again into buf.
-pub record Rewritten (s : List ℕ) (p : Problem) (buf : List ℕ) : Type 0 where
-  pub answer : writeProblem p (length buf) ≡ Written (length s)
-  pub buffer : writtenBuffer p buf ≡ s ++ drop (length s) buf
+-- The numbers l that the whole of s has.
+module _ (s l : List ℕ) (file : FileRead numberCount (replicate numberCount 0) s l) where
+  own-numbers : numbersOf (problemOf l) ≡ l
+  own-numbers = numbers-of-problem l (file .into .size) (good-facts l (file .into .good) .edition)
 
-module _ (s : List ℕ) (byte : (i : ℕ) → getD s i 0 < 256) where
-  -- The numbers l that the whole of s has.
-  module _ (l : List ℕ) (file : FileAgain numberCount (replicate numberCount 0) s l) where
-    numbers-again : numbersOf (problemOf l) ≡ l
-    numbers-again = numbers-of-problem l (file .into .size) (good-facts l (file .into .good) .edition)
+  fields-checked : checkFields l ≡ Done (length (fileBytes l))
+  fields-checked = file .checked
 
-    read-as : judgeGraph (problemOf l) ≡ Accepted → ReadAs s (problemOf l)
-    read-as graph =
-        record {
-          sized = sized-problem l;
-          bytes = ap fileBytes numbers-again ∙ file .bytes;
-          checked = is-checked (problemOf l) (length s) (record { fields = ap checkFields numbers-again ∙ file .checked; graph = graph });
-          spare =
-              ap (λ (m : List ℕ). problemOf (cleared m)) numbers-again
-              ∙ ap problemOf (sym (fill-cleared l (file .into .good)) ∙ sym (file .into .filled));
-        }
+  read-as : judgeGraph (problemOf l) ≡ Accepted → ReadAs s (problemOf l)
+  read-as graph =
+      record {
+        sized = sized-problem l;
+        file = subst (λ (m : List ℕ). Padded m numberCount firstField s) (sym own-numbers) (file .padded);
+        checked =
+            is-checked (problemOf l) (length (shortFile (problemOf l)))
+            (record { fields = subst (λ (m : List ℕ). checkFields m ≡ Done (length (fileBytes m))) (sym own-numbers) fields-checked; graph = graph });
+        spare =
+            ap (λ (m : List ℕ). problemOf (cleared m)) own-numbers
+            ∙ ap problemOf (sym (fill-cleared l (file .into .good)) ∙ sym (file .into .filled));
+      }
 
-  module _ (p : Problem) (is-read : readFile s ≡ read.Accepted p) where
-    whole-file : Whole (length s) (readFields s .answer) (readFields s .numbers) p
-    unfolding readFile
-    whole-file = whole (length s) (readFields s .numbers) p (readFields s .answer) is-read
-
-    pub accepted : ReadAs s p
-    accepted =
-        let w : Whole (length s) (readFields s .answer) (readFields s .numbers) p = whole-file in
-        let l : List ℕ = readFields s .numbers in
-        let file : FileAgain numberCount (replicate numberCount 0) s l =
-        file-again s l (w .end) byte (w .none-left) (ap (λ (f : FieldsAnswer). scanned f l) (w .done)) in
-        subst (λ (q : Problem). ReadAs s q) (w .problem) (read-as l file (w .graph))
-
-    -- Every spare place of an accepted problem is zero.
-    pub read-spare : clearedProblem p ≡ p
-    read-spare = accepted .spare
-
-    -- An accepted problem passes the checks of writing, and its file is as long as the one that was read.
-    pub read-checked : checkProblem p ≡ Done (length s)
-    read-checked = accepted .checked
-
-    -- An accepted file, written back into a long enough buffer, yields its own bytes, and the bytes past it keep their values.
-    pub read-then-write : (buf : List ℕ) → length s ≤ length buf → Rewritten s p buf
-    read-then-write buf room =
-        record {
-          answer = writes p buf (length s) read-checked room;
-          buffer = stores p buf (length s) read-checked room s (accepted .bytes) refl;
-        }
-
--- A lawful problem p, whose file has `need` bytes.
+-- A lawful problem p, whose shortest file has `need` bytes.
 module _ (p : Problem) (need : ℕ) (checked : checkProblem p ≡ Done need) where
-  again : ReadAgain numberCount (replicate numberCount 0) (numbersOf p) need
-  again = read-again (numbersOf p) need (good-problem p need checked .fields)
+  lawful : GoodProblem p need
+  lawful = good-problem p need checked
 
-  pub file-length : need ≡ length (fileBytes (numbersOf p))
-  file-length = again .ends
+  pub file-length : need ≡ length (shortFile p)
+  file-length = judged-ends (numbersOf p) need numberCount 0 0 firstField (lawful .fields) ∙ omega arith
 
-  scan-again : readFields (fileBytes (numbersOf p)) ≡ scanned (Done need) (cleared (numbersOf p))
-  scan-again = again .scan ∙ ap (scanned (Done need)) (fill-cleared (numbersOf p) (checked-good (numbersOf p) need (good-problem p need checked .fields)))
+  module _ (sized : Sized p) where
+    -- Clearing its spare places leaves a lawful problem the same.
+    pub same-cleared : SameProblem p (clearedProblem p)
+    same-cleared = same-checked p sized need (lawful .fields)
 
-module _ (p : Problem) (sized : Sized p) (need : ℕ) (checked : checkProblem p ≡ Done need) where
-  -- Clearing its spare places leaves a lawful problem the same.
-  pub same-cleared : SameProblem p (clearedProblem p)
-  same-cleared = same-checked p sized need (good-problem p need checked .fields)
+    graph-cleared : judgeGraph (clearedProblem p) ≡ Accepted
+    graph-cleared = sym (same-judged same-cleared) ∙ lawful .graph
 
-  graph-cleared : judgeGraph (clearedProblem p) ≡ Accepted
-  graph-cleared = sym (same-judged same-cleared) ∙ good-problem p need checked .graph
+    -- Every file of a lawful problem is read as the problem, with every spare place zero.
+    pub padded-read : (s : List ℕ) → FileOf p s → readFile s ≡ read.Accepted (clearedProblem p)
+    unfolding readFile
+    padded-read s file =
+        ap (λ (x : Scan). readRest (length s) (x .answer) (x .numbers)) (fields-back (numbersOf p) s (checked-good (numbersOf p) need (lawful .fields)) file)
+        ∙ simp (le-ltb (length s) (length s) (omega arith))
+        (ap (λ (v : Verdict). readVerdict v (clearedProblem p)) graph-cleared)
 
-  -- A lawful problem's file is read as the problem, with every spare place zero.
-  pub write-then-read : readFile (fileBytes (numbersOf p)) ≡ read.Accepted (clearedProblem p)
+    pub write-then-read : readFile (shortFile p) ≡ read.Accepted (clearedProblem p)
+    write-then-read = padded-read (shortFile p) (unpadded (numbersOf p) numberCount firstField)
+
+-- The problem p, written back into buf: the shortest file of p, which is read as p again; and past it what buf held.
+pub record Rewritten (p : Problem) (buf : List ℕ) : Type 0 where
+  pub answer : writeProblem p (length buf) ≡ Written (length (shortFile p))
+  pub buffer : writtenBuffer p buf ≡ shortFile p ++ drop (length (shortFile p)) buf
+  pub again : readFile (take (length (shortFile p)) (writtenBuffer p buf)) ≡ read.Accepted p
+
+-- A file s that Read accepts as p.
+module _ (s : List ℕ) (byte : (i : ℕ) → getD s i 0 < 256) (p : Problem) (is-read : readFile s ≡ read.Accepted p) where
+  whole-file : Whole (length s) (readFields s .answer) (readFields s .numbers) p
   unfolding readFile
-  write-then-read =
-      let s : List ℕ = fileBytes (numbersOf p) in
-      let end : length s ≤ need = omega (arith, file-length p need checked) in
-      ap (λ (x : Scan). readRest (length s) (x .answer) (x .numbers)) (scan-again p need checked)
-      ∙ simp (le-ltb need (length s) end)
-      (ap (λ (v : Verdict). readVerdict v (clearedProblem p)) graph-cleared)
+  whole-file = whole (length s) (readFields s .numbers) p (readFields s .answer) is-read
+
+  pub accepted : ReadAs s p
+  accepted =
+      let w : Whole (length s) (readFields s .answer) (readFields s .numbers) p = whole-file in
+      let l : List ℕ = readFields s .numbers in
+      let file : FileRead numberCount (replicate numberCount 0) s l =
+      fields-file s l (w .end) byte (w .none-left) (ap (λ (f : FieldsAnswer). scanned f l) (w .done)) in
+      subst (λ (q : Problem). ReadAs s q) (w .problem) (read-as s l file (w .graph))
+
+  -- It is a file of p.
+  pub read-file : FileOf p s
+  read-file = accepted .file
+
+  -- Every spare place of an accepted problem is zero.
+  pub read-spare : clearedProblem p ≡ p
+  read-spare = accepted .spare
+
+  -- An accepted problem passes the checks of writing, and needs no more bytes than were read.
+  pub read-checked : (checkProblem p ≡ Done (length (shortFile p))) × (length (shortFile p) ≤ length s)
+  read-checked = (accepted .checked, no-shorter read-file .long)
+
+  -- A file as short as the one that is written is that one.
+  pub shortest-file : length s ≤ length (shortFile p) → s ≡ shortFile p
+  shortest-file h = no-shorter read-file .same h
+
+  -- Each file of p is read as p: files that differ in padding alone are not told apart.
+  pub file-read : (t : List ℕ) → FileOf p t → readFile t ≡ read.Accepted p
+  file-read t file = padded-read p (length (shortFile p)) (accepted .checked) (accepted .sized) t file ∙ ap read.Accepted read-spare
+
+  pub short-read : readFile (shortFile p) ≡ read.Accepted p
+  short-read = file-read (shortFile p) (unpadded (numbersOf p) numberCount firstField)
+
+  -- An accepted file, written back into a buffer with room for the shortest file of its problem.
+  pub read-then-write : (buf : List ℕ) → length (shortFile p) ≤ length buf → Rewritten p buf
+  read-then-write buf room =
+      let n : ℕ = length (shortFile p) in
+      let buffer : writtenBuffer p buf ≡ shortFile p ++ drop n buf = stores p buf n (accepted .checked) room refl in
+      record {
+        answer = writes p buf n (accepted .checked) room;
+        buffer = buffer;
+        again = ap readFile (ap (take n) buffer ∙ take-at (shortFile p) (drop n buf) n refl) ∙ short-read;
+      }
+
+  -- A file that no other of its problem is shorter than comes back byte for byte.
+  pub shortest-kept : ((t : List ℕ) → ((i : ℕ) → getD t i 0 < 256) → readFile t ≡ read.Accepted p → length s ≤ length t) → s ≡ shortFile p
+  shortest-kept least = shortest-file (least (shortFile p) (padded-bytes (unpadded (numbersOf p) numberCount firstField)) short-read)
 
 -- Write put n bytes into buf: they are the file of p.
 pub record WrittenFile (p : Problem) (buf : List ℕ) (n : ℕ) : Type 0 where
   pub checked : checkProblem p ≡ Done n
   pub room : n ≤ length buf
-  pub long : n ≡ length (fileBytes (numbersOf p))
-  pub buffer : writtenBuffer p buf ≡ fileBytes (numbersOf p) ++ drop n buf
-  pub file : take n (writtenBuffer p buf) ≡ fileBytes (numbersOf p)
+  pub long : n ≡ length (shortFile p)
+  pub buffer : writtenBuffer p buf ≡ shortFile p ++ drop n buf
+  pub file : take n (writtenBuffer p buf) ≡ shortFile p
 
 pub written-file : (p : Problem) (buf : List ℕ) (n : ℕ) → writeProblem p (length buf) ≡ Written n → WrittenFile p buf n
 written-file p buf n e =
     let r : Roomy (checkProblem p) (length buf) n = has-room (length buf) n p e in
-    let s : List ℕ = fileBytes (numbersOf p) in
-    let long : n ≡ length s = file-length p n (r .checked) in
-    let buffer : writtenBuffer p buf ≡ s ++ drop n buf = stores p buf n (r .checked) (r .room) s refl (sym long) in
+    let long : n ≡ length (shortFile p) = file-length p n (r .checked) in
+    let buffer : writtenBuffer p buf ≡ shortFile p ++ drop n buf = stores p buf n (r .checked) (r .room) (sym long) in
     record {
       checked = r .checked;
       room = r .room;
       long = long;
       buffer = buffer;
-      file = ap (take n) buffer ∙ take-at s (drop n buf) n (sym long);
+      file = ap (take n) buffer ∙ take-at (shortFile p) (drop n buf) n (sym long);
     }
 
 -- What Write wrote of a problem is read as the problem, with every spare place zero.
@@ -155,4 +183,4 @@ pub written-read : (p : Problem) → Sized p → (buf : List ℕ) (n : ℕ) → 
     readFile (take n (writtenBuffer p buf)) ≡ read.Accepted (clearedProblem p)
 written-read p sized buf n e =
     let w : WrittenFile p buf n = written-file p buf n e in
-    ap readFile (w .file) ∙ write-then-read p sized n (w .checked)
+    ap readFile (w .file) ∙ write-then-read p n (w .checked) sized

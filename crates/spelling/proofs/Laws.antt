@@ -8,10 +8,9 @@ use native.Mathlib.Nat.{mul-le-mul-right, pow-le-pow-right, pow-succ'}
 use native.Mathlib.Numerals.{add-one}
 use lib.ListN.{length, getD, set}
 use lib.Seq.{sets}
-use borrow.Author.Tests.{ne-eqb}
 use Rattle.model.specs.declared.Number.{Number}
 use Rattle.model.specs.declared.Number.the-variants.{Value, Misspelt}
-use Rattle.model.specs.Spelling.{highFifth, zeroLast, readGroups, readNumber, groups, numberSize, numberBytes}
+use Rattle.model.specs.Spelling.{highFifth, readGroups, readNumber, groups, numberSize, numberBytes}
 use Rattle.model.proofs.Cases.{by-less}
 use Rattle.spelling.proofs.Reading.{Reading, reading, is-read}
 
@@ -54,14 +53,10 @@ unfolding readGroups
 runs-out {l = l} r h = let e : l ≡ 0 = omega arith in rw e at (r .same)
 
 -- A byte below 128 is a number.
-zero-alone : (b : ℕ) → zeroLast 4 b ≡ false
-zero-alone zero = refl
-zero-alone (suc b) = simp (ne-eqb (suc b) 0 (omega arith))
-
 pub one-byte : (s : List ℕ) (at : ℕ) → at < length s → getD s at 0 < 128 → readNumber s at ≡ Value (getD s at 0) (at + 1)
 one-byte s at h k =
     let same : 0 + getD s at 0 * 1 ≡ getD s at 0 = omega arith in
-    is-read (Reading.last h refl k (zero-alone (getD s at 0))) ∙ ap (λ (v : ℕ). Value v (at + 1)) same
+    is-read (Reading.last h refl k) ∙ ap (λ (v : ℕ). Value v (at + 1)) same
 
 -- What holds of a size follows from the size's range: `n` groups are too few, or the number has but one, and one more is enough.
 pub by-size : (P : ℕ → Type 0) (v : ℕ) →
@@ -80,11 +75,20 @@ size-pos v = by-size (λ n. 1 ≤ n) v (λ n h a b. omega arith)
 pub size-five : (v : ℕ) → numberSize v ≤ 5
 size-five v = by-size (λ n. n ≤ 5) v (λ n h a b. omega arith)
 
-groups-length : (n v : ℕ) → length (groups n v) ≡ n
+pub groups-length : (n v : ℕ) → length (groups n v) ≡ n
 unfolding groups
 groups-length zero v = refl
 groups-length (suc zero) v = refl
 groups-length (suc (suc n)) v = ap suc (groups-length (suc n) (v / 128))
+
+-- Each group is a byte.
+pub groups-bytes : (n v i : ℕ) → getD (groups n v) i 0 < 256
+unfolding groups
+groups-bytes zero v i = omega arith
+groups-bytes (suc zero) v zero = omega arith
+groups-bytes (suc zero) v (suc i) = omega arith
+groups-bytes (suc (suc n)) v zero = omega arith
+groups-bytes (suc (suc n)) v (suc i) = groups-bytes (suc n) (v / 128) i
 
 pub bytes-length : (v : ℕ) → length (numberBytes v) ≡ numberSize v
 bytes-length v = groups-length (numberSize v) v

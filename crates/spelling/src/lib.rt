@@ -4,7 +4,7 @@ ghost use mathlib.Core.Path.{_≡_};
 ghost use Prim.Native.Nat.{_+_, _≤_, _<_};
 ghost use lib.ListN.{length};
 ghost use lib.Seq.{sets};
-ghost use Rattle.model.specs.Spelling.{highFifth, zeroLast, readNumber, numberSize, numberBytes};
+ghost use Rattle.model.specs.Spelling.{highFifth, readNumber, numberSize, numberBytes};
 
 // A fifth byte above 0F.
 fn high_fifth(left: usize, b: u64) -> bool
@@ -12,16 +12,6 @@ fn high_fifth(left: usize, b: u64) -> bool
 {
     if left == 0 {
         return 15 < b;
-    }
-    false
-}
-
-// A zero last byte after others.
-fn zero_last(left: usize, b: u64) -> bool
-    ensures { λ r. ⌜ r ≡ zeroLast left b ⌝ }
-{
-    if b == 0 {
-        return left != 4;
     }
     false
 }
@@ -44,9 +34,6 @@ fn read_groups(bytes: &[u8], at: usize) -> Number
             return Number::Misspelt;
         }
         if b < 128 {
-            if zero_last(left, b) {
-                return Number::Misspelt;
-            }
             return Number::Value(value + b * unit, pos + 1);
         }
         value += (b - 128) * unit;

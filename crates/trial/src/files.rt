@@ -1,4 +1,5 @@
 // Files that are read, and M10's written again.
+use crate::padded;
 use crate::show;
 
 // Reads a file, and shows the refusal or the numbers of functions, vertices, edges and loops.
@@ -27,8 +28,8 @@ fn write(name: &[u8], file: &[u8], out: &mut [u8]) {
 pub fn refused_by_fields() {
     read(b"M10 cut after 4 bytes", b"\x01\x08\x01\x08");
     read(
-        b"M10 with scratchpad 88 00",
-        b"\x01\x88\x00\x01\x08\x05\x01\x00\x0a\x00\x00",
+        b"M10 with scratchpad 88 80 80 80 10",
+        b"\x01\x88\x80\x80\x80\x10\x01\x08\x05\x01\x00\x0a\x00\x00",
     );
     read(
         b"M10 with 33 functions",
@@ -64,7 +65,7 @@ pub fn refused_by_graph() {
     );
 }
 
-// M10's file: read, and written into a buffer that is too short and into one that is not.
+// M10's file: read, and written into a buffer that is too short and into one that is not; then with numbers padded.
 pub fn m10() {
     let file = b"\x01\x08\x01\x08\x05\x01\x00\x0a\x00\x00";
     let mut short = [0u8; 9];
@@ -72,4 +73,10 @@ pub fn m10() {
     let mut whole = [0u8; 10];
     write(b"M10 into 10 bytes", file, &mut whole);
     read(b"M10", file);
+    read(
+        b"M10 with scratchpad 88 00",
+        b"\x01\x88\x00\x01\x08\x05\x01\x00\x0a\x00\x00",
+    );
+    padded::rewrite(b"M10 padded, into 9 bytes", file, &mut short);
+    padded::rewrite(b"M10 padded, into 10 bytes", file, &mut whole);
 }

@@ -23,7 +23,8 @@ fn same_numbers(a: Numbers, b: Numbers) -> bool
     true
 }
 
-fn front(buf: &[u8], count: usize) -> &[u8] {
+// The bytes before a position, as far as there are any.
+pub fn front(buf: &[u8], count: usize) -> &[u8] {
     if count <= buf.len() {
         &buf[0..count]
     } else {
@@ -31,7 +32,7 @@ fn front(buf: &[u8], count: usize) -> &[u8] {
     }
 }
 
-fn refused(name: &[u8], refusal: Refusal) {
+pub fn refused(name: &[u8], refusal: Refusal) {
     show::refusal(name, model::number_of(refusal), model::place_of(refusal));
 }
 

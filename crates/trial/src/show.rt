@@ -26,6 +26,18 @@ pub fn written(name: &[u8], count: u64, same: bool) {
     }
 }
 
+// As `P padded: 190 bytes, written back as 38, equal to the file`.
+pub fn rewritten(name: &[u8], read: u64, count: u64, same: bool) {
+    text(name);
+    number(b": ", read);
+    number(b" bytes, written back as ", count);
+    if same {
+        text(b", equal to the file\n");
+    } else {
+        text(b", other than the file\n");
+    }
+}
+
 // As `P: 38 bytes, read back equal`.
 pub fn read_back(name: &[u8], count: u64, same: bool) {
     if same {

@@ -21,9 +21,6 @@ byte c = c .before .before
 abbrev turn : tie.Else1 Inv-loop μ-loop → tie.In-loop Inv-loop μ-loop
 turn c = c .before
 
-abbrev low : tie.After-zero-last Inv-loop μ-loop → tie.Else2 Inv-loop μ-loop
-low c = c .before .before
-
 loop-holds : tie.Need-loop-holds Inv-loop μ-loop
 loop-holds c = search needs
 
@@ -47,33 +44,23 @@ returns-2 c =
     let there = byte (c .before) in
     answers (turn there .before .loop .inv) (turn there .loop-test .taken) (Reading.fifth (there .if1 .left) (sym (c .before .high-fifth .ensures) ∙ c .if2 .taken))
 
-zero-last-requires : tie.Need-zero-last-requires Inv-loop μ-loop
-zero-last-requires c κs = search needs
+add-t14 : tie.Need-add-t14 Inv-loop μ-loop
+add-t14 c =
+    let at = turn (byte (c .before .before)) in
+    omega (arith, group-small (at .before .loop .inv) (at .loop-test .taken) _ (c .if3 .taken))
+
+mul-t13 : tie.Need-mul-t13 Inv-loop μ-loop
+mul-t13 c = omega (arith, add-t14 c)
+
+add-t15 : tie.Need-add-t15 Inv-loop μ-loop
+add-t15 c = search needs
 
 returns-3 : tie.Need-returns-3 Inv-loop μ-loop
 returns-3 c =
-    let good = low (c .before) in
+    let good = c .before in
     let there = byte (good .before) in
     answers (turn there .before .loop .inv) (turn there .loop-test .taken)
-    (Reading.zeroed (there .if1 .left) (sym (good .before .high-fifth .ensures) ∙ good .if2 .left) (c .before .before .if3 .taken) (sym (c .before .zero-last .ensures) ∙ c .if4 .taken))
-
-add-t15 : tie.Need-add-t15 Inv-loop μ-loop
-add-t15 c =
-    let at = turn (byte (low (c .before) .before)) in
-    omega (arith, group-small (at .before .loop .inv) (at .loop-test .taken) _ (c .before .before .if3 .taken))
-
-mul-t14 : tie.Need-mul-t14 Inv-loop μ-loop
-mul-t14 c = omega (arith, add-t15 c)
-
-add-t16 : tie.Need-add-t16 Inv-loop μ-loop
-add-t16 c = search needs
-
-returns-4 : tie.Need-returns-4 Inv-loop μ-loop
-returns-4 c =
-    let good = low (c .before) in
-    let there = byte (good .before) in
-    answers (turn there .before .loop .inv) (turn there .loop-test .taken)
-    (Reading.last (there .if1 .left) (sym (good .before .high-fifth .ensures) ∙ good .if2 .left) (c .before .before .if3 .taken) (sym (c .before .zero-last .ensures) ∙ c .if4 .left))
+    (Reading.last (there .if1 .left) (sym (good .before .high-fifth .ensures) ∙ good .if2 .left) (c .if3 .taken))
 
 loop-again : tie.Need-loop-again Inv-loop μ-loop
 loop-again c =
@@ -101,8 +88,8 @@ add-pos c = search needs
 loop-less : tie.Need-loop-less Inv-loop μ-loop
 loop-less c = search needs
 
-returns-5 : tie.Need-returns-5 Inv-loop μ-loop
-returns-5 c = runs-out (c .before .loop .inv) (c .loop-test .left)
+returns-4 : tie.Need-returns-4 Inv-loop μ-loop
+returns-4 c = runs-out (c .before .loop .inv) (c .loop-test .left)
 
 pub read-groups-spec : {M : Type 1} → statement M
 read-groups-spec =
@@ -117,16 +104,14 @@ read-groups-spec =
     cast-b
     high-fifth-requires
     returns-2
-    zero-last-requires
-    returns-3
-    mul-t14
+    mul-t13
+    add-t14
     add-t15
-    add-t16
-    returns-4
+    returns-3
     mul-value
     add-value
     mul-unit
     add-pos
     loop-less
     loop-again
-    returns-5)
+    returns-4)

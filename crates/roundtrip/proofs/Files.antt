@@ -1,0 +1,60 @@
+-- Of all files of the same numbers the one without padding is the shortest, and no other is as short.
+use Prim.Native.Nat.{ℕ, zero, suc, _+_, _-_, _≤_, _<_}
+use mathlib.Core.Path.{_≡_, refl, ap, _∙_}
+use mathlib.Core.List.{List, _++_}
+use native.Mathlib.Omega.{arith}
+use lib.ListN.{length, getD, length-append, List·getD-append}
+use lib.Seq.{getD-append-add}
+use Rattle.model.specs.declared.Field.{Field}
+use Rattle.model.specs.Spelling.{numberSize, groups, numberBytes}
+use Rattle.model.specs.File.{atEnd, nextField, bytesFrom}
+use Rattle.model.proofs.Cases.{by-bool, by-order}
+use Rattle.fields.proofs.OneField.{bytes-over, bytes-on}
+use Rattle.spelling.proofs.Laws.{size-five, groups-length, groups-bytes, bytes-length}
+use Rattle.roundtrip.specs.Files.{Padded}
+
+-- What is written is one of the files.
+pub unpadded : (l : List ℕ) (n : ℕ) (c : Field) → Padded l n c (bytesFrom n c l)
+unfolding bytesFrom
+unpadded l zero c = Padded.none
+unpadded l (suc n) c =
+    by-bool (atEnd c) (λ e. rw (bytes-over n c l e) (Padded.over e))
+    (λ e. let v : ℕ = getD l (c .place) 0 in
+    rw (bytes-on n c l v e refl) (Padded.on {c = c} (numberSize v) e (omega arith) (size-five v) (unpadded l n (nextField c v))))
+
+-- The bytes t are no fewer than the bytes b, and are b if they are no more.
+pub record NoShorter (b t : List ℕ) : Type 0 where
+  pub long : length b ≤ length t
+  pub same : length t ≤ length b → t ≡ b
+
+one-more : (k v : ℕ) (b t : List ℕ) → numberSize v ≤ k → NoShorter b t → NoShorter (numberBytes v ++ b) (groups k v ++ t)
+one-more k v b t enough r =
+    let short : length (numberBytes v ++ b) ≡ numberSize v + length b = length-append (numberBytes v) b ∙ ap (λ (n : ℕ). n + length b) (bytes-length v) in
+    let wide : length (groups k v ++ t) ≡ k + length t = length-append (groups k v) t ∙ ap (λ (n : ℕ). n + length t) (groups-length k v) in
+    record {
+      long = omega (arith, r .long);
+      same = λ h.
+          let size : k ≡ numberSize v = omega (arith, r .long) in
+          let rest : t ≡ b = r .same (omega arith) in
+          rw (size, rest);
+    }
+
+pub no-shorter : {l : List ℕ} {n : ℕ} {c : Field} {s : List ℕ} → Padded l n c s → NoShorter (bytesFrom n c l) s
+unfolding bytesFrom
+no-shorter Padded.none = record { long = omega arith; same = λ h. refl }
+no-shorter {l} {c = c} (Padded.over {n} e) = rw (bytes-over n c l e) (record { long = omega arith; same = λ h. refl })
+no-shorter {l} {c = c} (Padded.on {n} {rest = rest} k e enough few more) =
+    rw (bytes-on n c l _ e refl) (one-more k (getD l (c .place) 0) _ rest enough (no-shorter more))
+
+-- Files are bytes.
+append-bytes : (a b : List ℕ) → ((i : ℕ) → getD a i 0 < 256) → ((i : ℕ) → getD b i 0 < 256) → (i : ℕ) → getD (a ++ b) i 0 < 256
+append-bytes a b f g i =
+    by-order i (length a) (λ h. rw (List·getD-append a b 0 i h) (f i))
+    (λ h. let past : length a + (i - length a) ≡ i = omega arith in
+    let there : getD (a ++ b) i 0 ≡ getD b (i - length a) 0 = rw past at (getD-append-add a b (i - length a) 0) in
+    rw there (g (i - length a)))
+
+pub padded-bytes : {l : List ℕ} {n : ℕ} {c : Field} {s : List ℕ} → Padded l n c s → (i : ℕ) → getD s i 0 < 256
+padded-bytes Padded.none i = omega arith
+padded-bytes (Padded.over e) i = omega arith
+padded-bytes {l} {c = c} (Padded.on {rest = rest} k e enough few more) i = append-bytes (groups k (getD l (c .place) 0)) rest (groups-bytes k _) (λ j. padded-bytes more j) i
