@@ -1,0 +1,36 @@
+-- What `examiner_write` makes of a file that is read as p: the shortest file of p. Files that are read alike are written back alike, and what was written back is
+-- written back as it is.
+use Prim.Native.Nat.{ℕ, _≤_, _<_}
+use mathlib.Core.Path.{_≡_, sym, ap, _∙_}
+use mathlib.Core.List.{List, _++_}
+use lib.ListN.{length, getD, take, drop}
+use Rattle.model.specs.declared.Problem.{Problem}
+use Rattle.model.specs.declared.ReadAnswer.{ReadAnswer}
+use Rattle.model.specs.declared.ReadAnswer.the-variants.{Accepted}
+use Rattle.model.specs.Operations.{readFile, writtenBuffer}
+use Rattle.outcomes.specs.Outcomes.{onRead}
+use Rattle.roundtrip.specs.Files.{shortFile}
+use Rattle.roundtrip.proofs.Trip.{Rewritten, read-then-write}
+use Rattle.examiner.specs.Exports.{writeOut}
+
+-- Nothing of a file counts but what Read says of it.
+by-answer : (s : List ℕ) (a : ReadAnswer) → readFile s ≡ a → (out : List ℕ) → writeOut s out ≡ onRead a (λ p. writtenBuffer p out) (λ f. out)
+by-answer s a is out = ap (λ (x : ReadAnswer). onRead x (λ p. writtenBuffer p out) (λ f. out)) is
+
+pub back-alike : (s t : List ℕ) → readFile s ≡ readFile t → (out : List ℕ) → writeOut s out ≡ writeOut t out
+back-alike s t alike out = by-answer s (readFile t) alike out
+
+module _ (s : List ℕ) (byte : (i : ℕ) → getD s i 0 < 256) (p : Problem) (is-read : readFile s ≡ Accepted p) (out : List ℕ)
+    (room : length (shortFile p) ≤ length out) where
+  rewritten : Rewritten p out
+  rewritten = read-then-write s byte p is-read out room
+
+  pub written-back : writeOut s out ≡ shortFile p ++ drop (length (shortFile p)) out
+  written-back = by-answer s (Accepted p) is-read out ∙ rewritten .buffer
+
+  -- Writing back the file at the front of `out` is writing back s.
+  pub back-twice : (again : List ℕ) → writeOut (take (length (shortFile p)) (writeOut s out)) again ≡ writeOut s again
+  back-twice again =
+      back-alike (take (length (shortFile p)) (writeOut s out)) s
+      (ap (λ (b : List ℕ). readFile (take (length (shortFile p)) b)) (by-answer s (Accepted p) is-read out) ∙ rewritten .again ∙ sym is-read)
+      again
