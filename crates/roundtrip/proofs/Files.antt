@@ -1,26 +1,36 @@
 -- Of all files of the same numbers the one without padding is the shortest, and no other is as short.
 use Prim.Native.Nat.{ℕ, zero, suc, _+_, _-_, _≤_, _<_}
 use mathlib.Core.Path.{_≡_, refl, ap, _∙_}
-use mathlib.Core.List.{List, _++_}
+use mathlib.Core.List.{List, [], _++_}
+use mathlib.Core.Bool.{cond}
 use native.Mathlib.Omega.{arith}
 use lib.ListN.{length, getD, length-append, List·getD-append}
 use lib.Seq.{getD-append-add}
 use Rattle.model.specs.declared.Field.{Field}
 use Rattle.model.specs.Spelling.{numberSize, groups, numberBytes}
 use Rattle.model.specs.File.{atEnd, nextField, bytesFrom}
-use Rattle.model.proofs.Cases.{by-bool, by-order}
+use Rattle.model.proofs.Cases.{by-cond, by-order}
 use Rattle.fields.proofs.OneField.{bytes-over, bytes-on}
 use Rattle.spelling.proofs.Laws.{size-five, groups-length, groups-bytes, bytes-length}
-use Rattle.roundtrip.specs.Files.{Padded}
+use Rattle.roundtrip.specs.Files.{Padded, wideFrom}
+
+-- Bytes that are none at the end, and else some number of groups of the number at c with the bytes of the fields after it.
+grouped : (l : List ℕ) (n : ℕ) (c : Field) (k : ℕ) (rest : List ℕ) → numberSize (getD l (c .place) 0) ≤ k → k ≤ 5 →
+    Padded l n (nextField c (getD l (c .place) 0)) rest → Padded l (suc n) c (cond (atEnd c) [] (groups k (getD l (c .place) 0) ++ rest))
+grouped l n c k rest enough few more = by-cond (Padded l (suc n) c) (atEnd c) Padded.over (λ e. Padded.on k e enough few more)
 
 -- What is written is one of the files.
 pub unpadded : (l : List ℕ) (n : ℕ) (c : Field) → Padded l n c (bytesFrom n c l)
 unfolding bytesFrom
 unpadded l zero c = Padded.none
 unpadded l (suc n) c =
-    by-bool (atEnd c) (λ e. rw (bytes-over n c l e) (Padded.over e))
-    (λ e. let v : ℕ = getD l (c .place) 0 in
-    rw (bytes-on n c l v e refl) (Padded.on {c = c} (numberSize v) e (omega arith) (size-five v) (unpadded l n (nextField c v))))
+    grouped l n c (numberSize (getD l (c .place) 0)) _ (omega arith) (size-five (getD l (c .place) 0)) (unpadded l n (nextField c (getD l (c .place) 0)))
+
+-- And so is what has every number in five bytes.
+pub wide : (l : List ℕ) (n : ℕ) (c : Field) → Padded l n c (wideFrom n c l)
+unfolding wideFrom
+wide l zero c = Padded.none
+wide l (suc n) c = grouped l n c 5 _ (size-five (getD l (c .place) 0)) (omega arith) (wide l n (nextField c (getD l (c .place) 0)))
 
 -- The bytes t are no fewer than the bytes b, and are b if they are no more.
 pub record NoShorter (b t : List ℕ) : Type 0 where

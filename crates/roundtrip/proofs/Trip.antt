@@ -23,9 +23,9 @@ use Rattle.numbers.proofs.Inverse.{numbers-of-problem, sized-problem}
 use Rattle.facts.proofs.Judging.{checked-good}
 use Rattle.facts.proofs.Facts.{good-facts}
 use Rattle.facts.proofs.Cleared.{fill-cleared}
-use Rattle.roundtrip.specs.Files.{Padded, FileOf, shortFile}
+use Rattle.roundtrip.specs.Files.{Padded, FileOf, shortFile, wideFile}
 use Rattle.roundtrip.proofs.Ends.{judged-ends}
-use Rattle.roundtrip.proofs.Files.{unpadded, no-shorter, padded-bytes}
+use Rattle.roundtrip.proofs.Files.{unpadded, wide, no-shorter, padded-bytes}
 use Rattle.roundtrip.proofs.Reading.{FileRead, fields-file}
 use Rattle.roundtrip.proofs.Writing.{fields-back}
 use Rattle.roundtrip.proofs.Same.{same-judged, same-checked}
@@ -98,6 +98,9 @@ module _ (p : Problem) (need : ℕ) (checked : checkProblem p ≡ Done need) whe
 
     pub write-then-read : readFile (shortFile p) ≡ read.Accepted (clearedProblem p)
     write-then-read = padded-read (shortFile p) (unpadded (numbersOf p) numberCount firstField)
+
+    pub wide-read : readFile (wideFile p) ≡ read.Accepted (clearedProblem p)
+    wide-read = padded-read (wideFile p) (wide (numbersOf p) numberCount firstField)
 
 -- The problem p, written back into buf: the shortest file of p, which is read as p again; and past it what buf held.
 pub record Rewritten (p : Problem) (buf : List ℕ) : Type 0 where

@@ -3,7 +3,7 @@
 use Prim.Native.Nat.{ℕ, zero, suc, _≤_}
 use mathlib.Core.Path.{_≡_}
 use mathlib.Core.List.{List, [], _++_}
-use mathlib.Core.Bool.{true, false}
+use mathlib.Core.Bool.{true, false, cond}
 use lib.ListN.{getD}
 use Rattle.model.specs.declared.Field.{Field}
 use Rattle.model.specs.declared.Problem.{Problem}
@@ -22,6 +22,14 @@ pub data Padded (l : List ℕ) : ℕ → Field → List ℕ → Type 0 where
 abbrev pub FileOf : Problem → List ℕ → Type 0
 FileOf p s = Padded (numbersOf p) numberCount firstField s
 
--- The file of the problem that is written.
+-- The one that is written.
 abbrev pub shortFile : Problem → List ℕ
 shortFile p = fileBytes (numbersOf p)
+
+-- The one of a linker that reserves five bytes a number.
+unfoldable pub wideFrom : ℕ → Field → List ℕ → List ℕ
+wideFrom zero c l = []
+wideFrom (suc n) c l = cond (atEnd c) [] (groups 5 (getD l (c .place) 0) ++ wideFrom n (nextField c (getD l (c .place) 0)) l)
+
+abbrev pub wideFile : Problem → List ℕ
+wideFile p = wideFrom numberCount firstField (numbersOf p)
