@@ -1,12 +1,13 @@
 -- What `examiner_write` makes of a file that is read as p: the shortest file of p. Files that are read alike are written back alike, and what was written back is
 -- written back as it is.
-use Prim.Native.Nat.{ℕ, _≤_, _<_}
+use Prim.Native.Nat.{ℕ, _≤_}
 use mathlib.Core.Path.{_≡_, sym, ap, _∙_}
 use mathlib.Core.List.{List, _++_}
-use lib.ListN.{length, getD, take, drop}
+use lib.ListN.{length, take, drop}
 use Rattle.model.specs.declared.Problem.{Problem}
 use Rattle.model.specs.declared.ReadAnswer.{ReadAnswer}
 use Rattle.model.specs.declared.ReadAnswer.the-variants.{Accepted}
+use Rattle.model.specs.Spelling.{Bytes}
 use Rattle.model.specs.Operations.{readFile, writtenBuffer}
 use Rattle.outcomes.specs.Outcomes.{onRead}
 use Rattle.roundtrip.specs.Files.{shortFile}
@@ -20,7 +21,7 @@ by-answer s a is out = ap (λ (x : ReadAnswer). onRead x (λ p. writtenBuffer p 
 pub back-alike : (s t : List ℕ) → readFile s ≡ readFile t → (out : List ℕ) → writeOut s out ≡ writeOut t out
 back-alike s t alike out = by-answer s (readFile t) alike out
 
-module _ (s : List ℕ) (byte : (i : ℕ) → getD s i 0 < 256) (p : Problem) (is-read : readFile s ≡ Accepted p) (out : List ℕ)
+module _ (s : List ℕ) (byte : Bytes s) (p : Problem) (is-read : readFile s ≡ Accepted p) (out : List ℕ)
     (room : length (shortFile p) ≤ length out) where
   rewritten : Rewritten p out
   rewritten = read-then-write s byte p is-read out room

@@ -1,5 +1,5 @@
 -- Of all files of the same numbers the one without padding is the shortest, and no other is as short.
-use Prim.Native.Nat.{ℕ, zero, suc, _+_, _-_, _≤_, _<_}
+use Prim.Native.Nat.{ℕ, zero, suc, _+_, _-_, _≤_}
 use mathlib.Core.Path.{_≡_, refl, ap, _∙_}
 use mathlib.Core.List.{List, [], _++_}
 use mathlib.Core.Bool.{cond}
@@ -7,7 +7,7 @@ use native.Mathlib.Omega.{arith}
 use lib.ListN.{length, getD, length-append, List·getD-append}
 use lib.Seq.{getD-append-add}
 use Rattle.model.specs.declared.Field.{Field}
-use Rattle.model.specs.Spelling.{numberSize, groups, numberBytes}
+use Rattle.model.specs.Spelling.{Bytes, numberSize, groups, numberBytes}
 use Rattle.model.specs.File.{atEnd, nextField, bytesFrom}
 use Rattle.model.proofs.Cases.{by-cond, by-order}
 use Rattle.fields.proofs.OneField.{bytes-over, bytes-on}
@@ -57,14 +57,14 @@ no-shorter {l} {c = c} (Padded.on {n} {rest = rest} k e enough few more) =
     rw (bytes-on n c l _ e refl) (one-more k (getD l (c .place) 0) _ rest enough (no-shorter more))
 
 -- Files are bytes.
-append-bytes : (a b : List ℕ) → ((i : ℕ) → getD a i 0 < 256) → ((i : ℕ) → getD b i 0 < 256) → (i : ℕ) → getD (a ++ b) i 0 < 256
+append-bytes : (a b : List ℕ) → Bytes a → Bytes b → Bytes (a ++ b)
 append-bytes a b f g i =
     by-order i (length a) (λ h. rw (List·getD-append a b 0 i h) (f i))
     (λ h. let past : length a + (i - length a) ≡ i = omega arith in
     let there : getD (a ++ b) i 0 ≡ getD b (i - length a) 0 = rw past at (getD-append-add a b (i - length a) 0) in
     rw there (g (i - length a)))
 
-pub padded-bytes : {l : List ℕ} {n : ℕ} {c : Field} {s : List ℕ} → Padded l n c s → (i : ℕ) → getD s i 0 < 256
+pub padded-bytes : {l : List ℕ} {n : ℕ} {c : Field} {s : List ℕ} → Padded l n c s → Bytes s
 padded-bytes Padded.none i = omega arith
 padded-bytes (Padded.over e) i = omega arith
 padded-bytes {l} {c = c} (Padded.on {rest = rest} k e enough few more) i = append-bytes (groups k (getD l (c .place) 0)) rest (groups-bytes k _) (λ j. padded-bytes more j) i

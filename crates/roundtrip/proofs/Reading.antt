@@ -1,6 +1,6 @@
 -- A file that was read with nothing left over is a file of its numbers, padded or not, and its numbers pass the checks of writing. That they are good is known
 -- without the bytes.
-use Prim.Native.Nat.{ℕ, suc, _+_, _≤_, _<_}
+use Prim.Native.Nat.{ℕ, suc, _+_, _≤_}
 use mathlib.Core.Path.{_≡_, refl, sym, ap, subst, _∙_}
 use mathlib.Core.List.{List, [], _++_, append-assoc, append-nil}
 use mathlib.Core.Bool.{false}
@@ -8,7 +8,7 @@ use native.Mathlib.Omega.{arith}
 use lib.ListN.{length, getD, drop, replicate, length-set, length-replicate, drop-of-length-le}
 use Rattle.model.specs.declared.Field.{Field}
 use Rattle.model.specs.declared.FieldsAnswer.the-variants.{Done}
-use Rattle.model.specs.Spelling.{groups}
+use Rattle.model.specs.Spelling.{Bytes, groups}
 use Rattle.model.specs.File.{numberCount, firstField, atEnd, nextField, scanned, readFrom, checkFrom, bytesFrom, readFields}
 use Rattle.fields.specs.Valid.{Valid}
 use Rattle.spelling.proofs.RoundTrip.{Spelling, spelling}
@@ -33,7 +33,7 @@ back-on s n at c end m v next e here r more =
       bytes = r .bytes ∙ ap (λ (t : List ℕ). groups (r .size) v ++ t) (more .bytes) ∙ sym (append-assoc (groups (r .size) v) (more .file) (drop end s));
     }
 
-module _ (s : List ℕ) (byte : (i : ℕ) → getD s i 0 < 256) where
+module _ (s : List ℕ) (byte : Bytes s) where
   back : {n at start : ℕ} {c : Field} {l : List ℕ} {end : ℕ} {m : List ℕ} → Valid c → length l ≡ numberCount →
       Reads s n at start c l end m → Back s n at c end m
   back f size Reads.none = record { file = []; padded = Padded.none; bytes = refl }
@@ -48,7 +48,7 @@ pub record FileRead (n : ℕ) (z s l : List ℕ) : Type 0 where
   pub padded : Padded l n firstField s
   pub checked : checkFrom n 0 0 firstField l ≡ Done (length (bytesFrom n firstField l))
 
-whole : (n : ℕ) (z s l : List ℕ) (end : ℕ) → ((i : ℕ) → getD s i 0 < 256) → length z ≡ numberCount → length s ≤ end →
+whole : (n : ℕ) (z s l : List ℕ) (end : ℕ) → Bytes s → length z ≡ numberCount → length s ≤ end →
     readFrom n s 0 0 firstField z ≡ scanned (Done end) l → FileRead n z s l
 whole n z s l end byte size none-left e =
     let r : Back s n 0 firstField end l = back s byte Valid.edition size (reads s end l n 0 0 firstField z e) in
@@ -58,7 +58,7 @@ whole n z s l end byte size none-left e =
     let ends : 0 + length (bytesFrom n firstField l) ≡ length (bytesFrom n firstField l) = omega arith in
     record { into = into; padded = subst (λ (t : List ℕ). Padded l n firstField t) (sym is) (r .padded); checked = good-ends (into .good) 0 0 ∙ ap Done ends }
 
-pub fields-file : (s l : List ℕ) (end : ℕ) → ((i : ℕ) → getD s i 0 < 256) → length s ≤ end → readFields s ≡ scanned (Done end) l →
+pub fields-file : (s l : List ℕ) (end : ℕ) → Bytes s → length s ≤ end → readFields s ≡ scanned (Done end) l →
     FileRead numberCount (replicate numberCount 0) s l
 fields-file s l end byte none-left e =
     whole numberCount (replicate numberCount 0) s l end byte (length-replicate {A = ℕ} numberCount 0) none-left e

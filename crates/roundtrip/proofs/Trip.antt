@@ -1,10 +1,10 @@
 -- Read and Write undo each other, but for padding: the files that are read as a problem are its files, padded or not, and what is written is the shortest of
 -- them. A lawful problem, written, is read as itself.
-use Prim.Native.Nat.{ℕ, _+_, _≤_, _<_}
-use mathlib.Core.Path.{_≡_, refl, sym, ap, subst, _∙_}
+use Prim.Native.Nat.{ℕ, _+_, _≤_}
+use mathlib.Core.Path.{_≡_, sym, ap, subst, _∙_}
 use mathlib.Core.List.{List, _++_}
 use native.Mathlib.Omega.{arith}
-use lib.ListN.{length, getD, take, drop, replicate}
+use lib.ListN.{length, take, drop, replicate}
 use lib.Seq.{sets, sets-eq, take-at}
 use borrow.Author.Tests.{le-ltb}
 use Rattle.model.specs.declared.FieldsAnswer.{FieldsAnswer}
@@ -15,11 +15,13 @@ use Rattle.model.specs.declared.Problem.{Problem}
 use Rattle.model.specs.declared.ReadAnswer.the-variants as read
 use Rattle.model.specs.declared.WriteAnswer.{WriteAnswer}
 use Rattle.model.specs.declared.WriteAnswer.the-variants.{Written}
+use Rattle.model.specs.Spelling.{Bytes}
 use Rattle.model.specs.Numbers.{numbersOf, problemOf, Sized}
 use Rattle.model.specs.File.{numberCount, firstField, Scan, scanned, readFields, checkFields, fileBytes, cleared}
 use Rattle.model.specs.Graph.{judgeGraph}
 use Rattle.model.specs.Operations.{readVerdict, readRest, readFile, SameProblem, clearedProblem, checkProblem, writeChecked, writeProblem, afterWrite, writtenBuffer}
 use Rattle.numbers.proofs.Inverse.{numbers-of-problem, sized-problem}
+use Rattle.facts.proofs.Good.{GoodNumbers}
 use Rattle.facts.proofs.Judging.{checked-good}
 use Rattle.facts.proofs.Facts.{good-facts}
 use Rattle.facts.proofs.Cleared.{fill-cleared}
@@ -32,17 +34,82 @@ use Rattle.roundtrip.proofs.Same.{same-judged, same-checked}
 use Rattle.roundtrip.proofs.Answers.{Whole, whole, GoodProblem, good-problem, is-checked, Roomy, has-room}
 
 -- Writing a lawful problem where there is room for it.
-module _ (p : Problem) (buf : List ℕ) (need : ℕ) (checked : checkProblem p ≡ Done need) (room : need ≤ length buf) where
-  writes : writeProblem p (length buf) ≡ Written need
-  unfolding writeProblem
-  writes = ap (λ (f : FieldsAnswer). writeChecked f (length buf)) checked ∙ simp (le-ltb (length buf) need room)
+writes : (p : Problem) (room need : ℕ) → checkProblem p ≡ Done need → need ≤ room → writeProblem p room ≡ Written need
+unfolding writeProblem
+writes p room need checked enough = ap (λ (f : FieldsAnswer). writeChecked f room) checked ∙ simp (le-ltb room need enough)
 
-  stores : length (shortFile p) ≡ need → writtenBuffer p buf ≡ shortFile p ++ drop need buf
-  stores long =
-      let end : 0 + length (shortFile p) ≡ need = omega arith in
-      ap (λ (a : WriteAnswer). afterWrite a p buf) writes
-      ∙ sets-eq (shortFile p) buf 0 (omega arith)
-      ∙ ap (λ (k : ℕ). shortFile p ++ drop k buf) end
+-- What was written stands at the front of the buffer.
+stored : (p : Problem) (buf : List ℕ) (n : ℕ) → writeProblem p (length buf) ≡ Written n → n ≤ length buf → n ≡ length (shortFile p) →
+    writtenBuffer p buf ≡ shortFile p ++ drop n buf
+stored p buf n e room long =
+    let end : 0 + length (shortFile p) ≡ n = omega arith in
+    ap (λ (a : WriteAnswer). afterWrite a p buf) e
+    ∙ sets-eq (shortFile p) buf 0 (omega arith)
+    ∙ ap (λ (k : ℕ). shortFile p ++ drop k buf) end
+
+-- A lawful problem p, whose shortest file has `need` bytes.
+module _ (p : Problem) (need : ℕ) (checked : checkProblem p ≡ Done need) where
+  lawful : GoodProblem p need
+  lawful = good-problem p need checked
+
+  pub file-length : need ≡ length (shortFile p)
+  file-length = judged-ends (numbersOf p) need numberCount 0 0 firstField (lawful .fields) ∙ omega arith
+
+short-is : (p : Problem) → FileOf p (shortFile p)
+short-is p = unpadded (numbersOf p) numberCount firstField
+
+module _ (p : Problem) (sized : Sized p) (need : ℕ) (checked : checkProblem p ≡ Done need) where
+  -- Clearing its spare places leaves a lawful problem the same.
+  pub same-cleared : SameProblem p (clearedProblem p)
+  same-cleared = same-checked p sized need (lawful p need checked .fields)
+
+  graph-cleared : judgeGraph (clearedProblem p) ≡ Accepted
+  graph-cleared = sym (same-judged same-cleared) ∙ lawful p need checked .graph
+
+  -- Every file of a lawful problem is read as the problem, with every spare place zero.
+  pub padded-read : (s : List ℕ) → FileOf p s → readFile s ≡ read.Accepted (clearedProblem p)
+  unfolding readFile
+  padded-read s file =
+      let good : GoodNumbers (numbersOf p) = checked-good (numbersOf p) need (lawful p need checked .fields) in
+      ap (λ (x : Scan). readRest (length s) (x .answer) (x .numbers)) (fields-back (numbersOf p) s good file)
+      ∙ simp (le-ltb (length s) (length s) (omega arith))
+      (ap (λ (v : Verdict). readVerdict v (clearedProblem p)) graph-cleared)
+
+  -- The shortest, which is written.
+  pub write-then-read : readFile (shortFile p) ≡ read.Accepted (clearedProblem p)
+  write-then-read = padded-read (shortFile p) (short-is p)
+
+  -- The linker's.
+  pub wide-read : readFile (wideFile p) ≡ read.Accepted (clearedProblem p)
+  wide-read = padded-read (wideFile p) (wide (numbersOf p) numberCount firstField)
+
+-- Write put n bytes into buf: they are the file of p.
+pub record WrittenFile (p : Problem) (buf : List ℕ) (n : ℕ) : Type 0 where
+  pub checked : checkProblem p ≡ Done n
+  pub room : n ≤ length buf
+  pub long : n ≡ length (shortFile p)
+  pub buffer : writtenBuffer p buf ≡ shortFile p ++ drop n buf
+  pub file : take n (writtenBuffer p buf) ≡ shortFile p
+
+pub written-file : (p : Problem) (buf : List ℕ) (n : ℕ) → writeProblem p (length buf) ≡ Written n → WrittenFile p buf n
+written-file p buf n e =
+    let r : Roomy (checkProblem p) (length buf) n = has-room (length buf) n p e in
+    let long : n ≡ length (shortFile p) = file-length p n (r .checked) in
+    let buffer : writtenBuffer p buf ≡ shortFile p ++ drop n buf = stored p buf n e (r .room) long in
+    record {
+      checked = r .checked;
+      room = r .room;
+      long = long;
+      buffer = buffer;
+      file = ap (take n) buffer ∙ take-at (shortFile p) (drop n buf) n (sym long);
+    }
+
+-- What Write wrote of a problem is read as the problem, with every spare place zero.
+pub written-read : (p : Problem) → Sized p → (buf : List ℕ) (n : ℕ) → writeProblem p (length buf) ≡ Written n →
+    readFile (take n (writtenBuffer p buf)) ≡ read.Accepted (clearedProblem p)
+written-read p sized buf n e =
+    let w : WrittenFile p buf n = written-file p buf n e in
+    ap readFile (w .file) ∙ write-then-read p sized n (w .checked)
 
 -- The bytes s are accepted as the problem p: they are a file of it, and its spare places are zero.
 pub record ReadAs (s : List ℕ) (p : Problem) : Type 0 where
@@ -56,60 +123,28 @@ module _ (s l : List ℕ) (file : FileRead numberCount (replicate numberCount 0)
   own-numbers : numbersOf (problemOf l) ≡ l
   own-numbers = numbers-of-problem l (file .into .size) (good-facts l (file .into .good) .edition)
 
-  fields-checked : checkFields l ≡ Done (length (fileBytes l))
-  fields-checked = file .checked
+  fields-checked : checkFields (numbersOf (problemOf l)) ≡ Done (length (shortFile (problemOf l)))
+  fields-checked = subst (λ (m : List ℕ). checkFields m ≡ Done (length (fileBytes m))) (sym own-numbers) (file .checked)
 
   read-as : judgeGraph (problemOf l) ≡ Accepted → ReadAs s (problemOf l)
   read-as graph =
       record {
         sized = sized-problem l;
         file = subst (λ (m : List ℕ). Padded m numberCount firstField s) (sym own-numbers) (file .padded);
-        checked =
-            is-checked (problemOf l) (length (shortFile (problemOf l)))
-            (record { fields = subst (λ (m : List ℕ). checkFields m ≡ Done (length (fileBytes m))) (sym own-numbers) fields-checked; graph = graph });
+        checked = is-checked (problemOf l) _ (record { fields = fields-checked; graph = graph });
         spare =
             ap (λ (m : List ℕ). problemOf (cleared m)) own-numbers
             ∙ ap problemOf (sym (fill-cleared l (file .into .good)) ∙ sym (file .into .filled));
       }
 
--- A lawful problem p, whose shortest file has `need` bytes.
-module _ (p : Problem) (need : ℕ) (checked : checkProblem p ≡ Done need) where
-  lawful : GoodProblem p need
-  lawful = good-problem p need checked
-
-  pub file-length : need ≡ length (shortFile p)
-  file-length = judged-ends (numbersOf p) need numberCount 0 0 firstField (lawful .fields) ∙ omega arith
-
-  module _ (sized : Sized p) where
-    -- Clearing its spare places leaves a lawful problem the same.
-    pub same-cleared : SameProblem p (clearedProblem p)
-    same-cleared = same-checked p sized need (lawful .fields)
-
-    graph-cleared : judgeGraph (clearedProblem p) ≡ Accepted
-    graph-cleared = sym (same-judged same-cleared) ∙ lawful .graph
-
-    -- Every file of a lawful problem is read as the problem, with every spare place zero.
-    pub padded-read : (s : List ℕ) → FileOf p s → readFile s ≡ read.Accepted (clearedProblem p)
-    unfolding readFile
-    padded-read s file =
-        ap (λ (x : Scan). readRest (length s) (x .answer) (x .numbers)) (fields-back (numbersOf p) s (checked-good (numbersOf p) need (lawful .fields)) file)
-        ∙ simp (le-ltb (length s) (length s) (omega arith))
-        (ap (λ (v : Verdict). readVerdict v (clearedProblem p)) graph-cleared)
-
-    pub write-then-read : readFile (shortFile p) ≡ read.Accepted (clearedProblem p)
-    write-then-read = padded-read (shortFile p) (unpadded (numbersOf p) numberCount firstField)
-
-    pub wide-read : readFile (wideFile p) ≡ read.Accepted (clearedProblem p)
-    wide-read = padded-read (wideFile p) (wide (numbersOf p) numberCount firstField)
-
--- The problem p, written back into buf: the shortest file of p, which is read as p again; and past it what buf held.
+-- The problem p, written back into buf: the shortest file of p, which is read as p again, and past it what buf held.
 pub record Rewritten (p : Problem) (buf : List ℕ) : Type 0 where
   pub answer : writeProblem p (length buf) ≡ Written (length (shortFile p))
   pub buffer : writtenBuffer p buf ≡ shortFile p ++ drop (length (shortFile p)) buf
   pub again : readFile (take (length (shortFile p)) (writtenBuffer p buf)) ≡ read.Accepted p
 
 -- A file s that Read accepts as p.
-module _ (s : List ℕ) (byte : (i : ℕ) → getD s i 0 < 256) (p : Problem) (is-read : readFile s ≡ read.Accepted p) where
+module _ (s : List ℕ) (byte : Bytes s) (p : Problem) (is-read : readFile s ≡ read.Accepted p) where
   whole-file : Whole (length s) (readFields s .answer) (readFields s .numbers) p
   unfolding readFile
   whole-file = whole (length s) (readFields s .numbers) p (readFields s .answer) is-read
@@ -126,6 +161,10 @@ module _ (s : List ℕ) (byte : (i : ℕ) → getD s i 0 < 256) (p : Problem) (i
   pub read-file : FileOf p s
   read-file = accepted .file
 
+  -- Each file of p is read as p: files that differ in padding alone are not told apart.
+  pub file-read : (t : List ℕ) → FileOf p t → readFile t ≡ read.Accepted p
+  file-read t file = padded-read p (accepted .sized) (length (shortFile p)) (accepted .checked) t file ∙ ap read.Accepted (accepted .spare)
+
   -- Every spare place of an accepted problem is zero.
   pub read-spare : clearedProblem p ≡ p
   read-spare = accepted .spare
@@ -134,56 +173,17 @@ module _ (s : List ℕ) (byte : (i : ℕ) → getD s i 0 < 256) (p : Problem) (i
   pub read-checked : (checkProblem p ≡ Done (length (shortFile p))) × (length (shortFile p) ≤ length s)
   read-checked = (accepted .checked, no-shorter read-file .long)
 
-  -- A file as short as the one that is written is that one.
-  pub shortest-file : length s ≤ length (shortFile p) → s ≡ shortFile p
-  shortest-file h = no-shorter read-file .same h
-
-  -- Each file of p is read as p: files that differ in padding alone are not told apart.
-  pub file-read : (t : List ℕ) → FileOf p t → readFile t ≡ read.Accepted p
-  file-read t file = padded-read p (length (shortFile p)) (accepted .checked) (accepted .sized) t file ∙ ap read.Accepted read-spare
-
-  pub short-read : readFile (shortFile p) ≡ read.Accepted p
-  short-read = file-read (shortFile p) (unpadded (numbersOf p) numberCount firstField)
-
   -- An accepted file, written back into a buffer with room for the shortest file of its problem.
   pub read-then-write : (buf : List ℕ) → length (shortFile p) ≤ length buf → Rewritten p buf
   read-then-write buf room =
-      let n : ℕ = length (shortFile p) in
-      let buffer : writtenBuffer p buf ≡ shortFile p ++ drop n buf = stores p buf n (accepted .checked) room refl in
-      record {
-        answer = writes p buf n (accepted .checked) room;
-        buffer = buffer;
-        again = ap readFile (ap (take n) buffer ∙ take-at (shortFile p) (drop n buf) n refl) ∙ short-read;
-      }
+      let answer : writeProblem p (length buf) ≡ Written (length (shortFile p)) = writes p (length buf) (length (shortFile p)) (accepted .checked) room in
+      let w : WrittenFile p buf (length (shortFile p)) = written-file p buf (length (shortFile p)) answer in
+      record { answer = answer; buffer = w .buffer; again = ap readFile (w .file) ∙ file-read (shortFile p) (short-is p) }
 
-  -- A file that no other of its problem is shorter than comes back byte for byte.
-  pub shortest-kept : ((t : List ℕ) → ((i : ℕ) → getD t i 0 < 256) → readFile t ≡ read.Accepted p → length s ≤ length t) → s ≡ shortFile p
-  shortest-kept least = shortest-file (least (shortFile p) (padded-bytes (unpadded (numbersOf p) numberCount firstField)) short-read)
+  -- A file that is no longer than the one that is written is that one.
+  pub shortest-file : length s ≤ length (shortFile p) → s ≡ shortFile p
+  shortest-file h = no-shorter read-file .same h
 
--- Write put n bytes into buf: they are the file of p.
-pub record WrittenFile (p : Problem) (buf : List ℕ) (n : ℕ) : Type 0 where
-  pub checked : checkProblem p ≡ Done n
-  pub room : n ≤ length buf
-  pub long : n ≡ length (shortFile p)
-  pub buffer : writtenBuffer p buf ≡ shortFile p ++ drop n buf
-  pub file : take n (writtenBuffer p buf) ≡ shortFile p
-
-pub written-file : (p : Problem) (buf : List ℕ) (n : ℕ) → writeProblem p (length buf) ≡ Written n → WrittenFile p buf n
-written-file p buf n e =
-    let r : Roomy (checkProblem p) (length buf) n = has-room (length buf) n p e in
-    let long : n ≡ length (shortFile p) = file-length p n (r .checked) in
-    let buffer : writtenBuffer p buf ≡ shortFile p ++ drop n buf = stores p buf n (r .checked) (r .room) (sym long) in
-    record {
-      checked = r .checked;
-      room = r .room;
-      long = long;
-      buffer = buffer;
-      file = ap (take n) buffer ∙ take-at (shortFile p) (drop n buf) n (sym long);
-    }
-
--- What Write wrote of a problem is read as the problem, with every spare place zero.
-pub written-read : (p : Problem) → Sized p → (buf : List ℕ) (n : ℕ) → writeProblem p (length buf) ≡ Written n →
-    readFile (take n (writtenBuffer p buf)) ≡ read.Accepted (clearedProblem p)
-written-read p sized buf n e =
-    let w : WrittenFile p buf n = written-file p buf n e in
-    ap readFile (w .file) ∙ write-then-read p n (w .checked) sized
+  -- So a file than which no other of its problem is shorter keeps its bytes.
+  pub shortest-kept : ((t : List ℕ) → Bytes t → readFile t ≡ read.Accepted p → length s ≤ length t) → s ≡ shortFile p
+  shortest-kept least = shortest-file (least (shortFile p) (padded-bytes (short-is p)) (file-read (shortFile p) (short-is p)))

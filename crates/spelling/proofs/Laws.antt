@@ -10,7 +10,7 @@ use lib.ListN.{length, getD, set}
 use lib.Seq.{sets}
 use Rattle.model.specs.declared.Number.{Number}
 use Rattle.model.specs.declared.Number.the-variants.{Value, Misspelt}
-use Rattle.model.specs.Spelling.{highFifth, readGroups, readNumber, groups, numberSize, numberBytes}
+use Rattle.model.specs.Spelling.{Bytes, highFifth, readGroups, readNumber, groups, numberSize, numberBytes}
 use Rattle.model.proofs.Cases.{by-less}
 use Rattle.spelling.proofs.Reading.{Reading, reading, is-read}
 
@@ -82,7 +82,7 @@ groups-length (suc zero) v = refl
 groups-length (suc (suc n)) v = ap suc (groups-length (suc n) (v / 128))
 
 -- Each group is a byte.
-pub groups-bytes : (n v i : ℕ) → getD (groups n v) i 0 < 256
+pub groups-bytes : (n v : ℕ) → Bytes (groups n v)
 unfolding groups
 groups-bytes zero v i = omega arith
 groups-bytes (suc zero) v zero = omega arith

@@ -10,7 +10,7 @@ use lib.ListN.{length, getD, drop, length-append}
 use lib.Seq.{getD-append-seam, append-snoc, drop-cons}
 use borrow.Author.Tests.{lt-ltb, le-ltb, ne-eqb, ltb-false}
 use Rattle.model.specs.declared.Number.the-variants.{Value}
-use Rattle.model.specs.Spelling.{highFifth, readGroups, readNumber, groups, numberSize, numberBytes}
+use Rattle.model.specs.Spelling.{Bytes, highFifth, readGroups, readNumber, groups, numberSize, numberBytes}
 use Rattle.spelling.proofs.Reading.{Reading, reading}
 use Rattle.spelling.proofs.Laws.{by-size, size-pos, size-five}
 
@@ -142,7 +142,7 @@ pub record Spelling (s : List ℕ) (at v next : ℕ) : Type 0 where
   pub ends : next ≡ at + size
   pub bytes : drop at s ≡ groups size v ++ drop next s
 
-module _ (s : List ℕ) (byte : (i : ℕ) → getD s i 0 < 256) where
+module _ (s : List ℕ) (byte : Bytes s) where
   spelt : (l : ℕ) {at u w x next : ℕ} → l ≤ 4 → Reading s (suc l) at u w (Value x next) → Spelt l s at u w x next
   spelt l {at} {u} {w} room (Reading.last h e k) = spelt-last s l at u w h e k
   spelt zero {at} room (Reading.more h e k r) = absurd (omega (arith, ltb-false 15 (getD s at 0) e))
