@@ -44,7 +44,17 @@ pub record PairsRead (s : List ℕ) (at : ℕ) (c : Field) (l m : List ℕ) (k e
   pub long : length m ≡ numberCount
   pub same : (n start : ℕ) → readFrom (n + places.edgeWidth * k) s at start c l ≡ readFrom n s end start (pastPairs c k) m
 
--- The same by a run of k edges, a byte a number.
+-- What reading one such item asks: others follow it in its list.
+pub record AtItem (s : List ℕ) (at : ℕ) (c : Field) (l : List ℕ) : Type 0 where
+  pub readable : Readable s at c l
+  pub more : 0 < c .left
+
+-- One item is read, which ends at a position; or the position is 0, and nothing is read.
+pub record ItemTaken (s : List ℕ) (at : ℕ) (c : Field) (l m : List ℕ) (end : ℕ) : Type 0 where
+  pub left : end ≡ 0 → m ≡ l
+  pub taken : 0 < end → PairsRead s at c l m 1 end
+
+-- A run of k edges is read, a byte a number.
 abbrev pub EdgesRead : List ℕ → ℕ → Field → List ℕ → List ℕ → ℕ → Type 0
 EdgesRead s at c l m k = PairsRead s at c l m k (at + places.edgeWidth * k)
 

@@ -1,7 +1,8 @@
-// Runs of edges. Most of a large file is edges, so those that are sure to pass are taken at once: behind the list's first edge and before its last,
-// each a byte a number, in range and ascending. What ends a run is left to the steps from field to field.
+// Runs of edges. Most of a large file is edges, so those that are sure to pass are taken at once: behind the list's first edge and before its last, in range and
+// ascending. Most are a byte a number; padded ones are read one by one. What ends a run is left to the steps from field to field.
 use field_rules::EDGE_SPAN;
 use model::Field;
+use model::Number;
 use model::Numbers;
 use model::places;
 use model::places::EDGE_WIDTH;
@@ -12,7 +13,7 @@ ghost use mathlib.Core.Bool.{true};
 ghost use Rattle.model.specs.File.{numberCount};
 ghost use Rattle.model.specs.Places as spot;
 ghost use Rattle.fields.specs.Valid.{Valid};
-ghost use Rattle.edge_runs.specs.Edges.{pastPairs, Opens, secondEdge, Follows, Readable, EdgesRead, EdgesChecked};
+ghost use Rattle.edge_runs.specs.Edges.{pastPairs, Opens, secondEdge, Follows, Readable, AtItem, ItemTaken, EdgesRead, EdgesChecked};
 
 // The place where the second edge starts.
 const SECOND: usize = places::FROM + EDGE_WIDTH;
@@ -59,7 +60,7 @@ fn follows(numbers: &Numbers, place: usize, vertices: u64, from: u64, to: u64) -
     field_rules::edge_before(numbers[before], numbers[before + EDGE_SPAN], from, to)
 }
 
-// Reads a run from the field on, and answers how many edges it has.
+// Reads a run of edges that are a byte a number from the field on, and answers how many it has.
 pub fn read_edges(bytes: &[u8], numbers: &mut Numbers, at: usize, field: Field) -> usize
     requires { ⌜ Readable (now bytes) at field (now numbers) ⌝ }
     ensures { λ r. ⌜ EdgesRead (now (bytes .entry)) at field (now (numbers .entry)) (now (numbers .exit)) r ⌝ }
@@ -89,7 +90,33 @@ pub fn read_edges(bytes: &[u8], numbers: &mut Numbers, at: usize, field: Field) 
     run
 }
 
-// The same of numbers that are there already: how many edges from the field on are sure to pass.
+// Reads the edge at a field that others follow, however its numbers are spelt, and answers the position behind it; or answers 0 and reads nothing.
+pub fn read_edge(bytes: &[u8], numbers: &mut Numbers, at: usize, field: Field) -> usize
+    requires { ⌜ AtItem (now bytes) at field (now numbers) ⌝ }
+    ensures { λ r. ⌜ ItemTaken (now (bytes .entry)) at field (now (numbers .entry)) (now (numbers .exit)) r ⌝ }
+{
+    let vertices = numbers[places::VERTEX_COUNT];
+    if !opens(field, vertices) {
+        return 0;
+    }
+    let first = spelling::read_number(bytes, at);
+    let Number::Value(from, middle) = first else {
+        return 0;
+    };
+    let second = spelling::read_number(bytes, middle);
+    let Number::Value(to, next) = second else {
+        return 0;
+    };
+    let place = field.place;
+    if !follows(numbers, place, vertices, from, to) {
+        return 0;
+    }
+    numbers[place] = from;
+    numbers[place + EDGE_SPAN] = to;
+    next
+}
+
+// The same of numbers that are there already, a byte a number: how many edges from the field on are sure to pass.
 pub fn check_edges(numbers: &Numbers, field: Field) -> usize
     requires { ⌜ Valid field ⌝ }
     ensures { λ r. ⌜ EdgesChecked field (now (numbers .entry)) r ⌝ }

@@ -1,5 +1,5 @@
 -- A function or a vertex that others of its list follow: the steps of its two numbers come to one turn of a run.
-use Prim.Native.Nat.{ℕ, suc, _+_, _*_, _-_, _≤_, _<_}
+use Prim.Native.Nat.{ℕ, suc, _+_, _-_, _<_}
 use mathlib.Core.Path.{_≡_, refl, sym, ap, _∙_}
 use mathlib.Core.List.{List}
 use mathlib.Core.Bool.{Bool, true}
@@ -11,22 +11,31 @@ use Rattle.model.specs.declared.Field.{Field}
 use Rattle.model.specs.declared.Number.the-variants as number
 use Rattle.model.specs.Spelling.{readNumber}
 use Rattle.model.specs.Table.{limits, bases, kinds, jumps, counts, kind, firstKind}
-use Rattle.model.specs.File.{numberCount, nextField, afterItem, belowCount, fromHeader, inRange, ascends, itemStart, readFrom}
+use Rattle.model.specs.File.{nextField, afterItem, belowCount, fromHeader, inRange, ascends, itemStart, readFrom}
 use Rattle.model.proofs.Cases.{by-cond}
 use Rattle.spelling.proofs.Prefix.{number-ends}
 use Rattle.fields.specs.Valid.{Valid, Placed, field}
 use Rattle.fields.proofs.Steps.{placed, ranged-later}
 use Rattle.fields.proofs.OneField.{read-on}
-use Rattle.edge_runs.specs.Edges.{pastPairs, PairsRead}
-use Rattle.edge_runs.proofs.EdgesRead.{start-free}
-use Rattle.pair_runs.specs.Pairs.{Pair, functions, vertices, AtPair, PairTaken}
+use Rattle.edge_runs.specs.Edges.{ItemTaken}
+use Rattle.edge_runs.proofs.EdgesRead.{item-read, one-taken}
+use Rattle.pair_runs.specs.Pairs.{Pair, functions, vertices, Item, pair, edge, AtPair}
 use Rattle.model.specs.Places as places
 use Rattle.model.specs.Rows as rows
 
 -- What the steps of the two numbers find, for either list.
-pub going : {row : ℕ} → Pair row → row + 1 < rows.end
+going : {row : ℕ} → Pair row → row + 1 < rows.end
 going functions = omega arith
 going vertices = omega arith
+
+-- An item that is no edge is a function or a vertex.
+pub no-edge : {row : ℕ} → Item row → (row ≡ rows.from → ⊥) → Pair row
+no-edge (pair p) other = p
+no-edge edge other = let z : ⊥ = other refl in elim z [ ]
+
+pub item-going : {row : ℕ} → Item row → row < rows.end
+item-going (pair p) = omega (arith, going p)
+item-going edge = omega arith
 
 module _ (l : List ℕ) (q left v : ℕ) where
   first-ascends : {row : ℕ} → Pair row → ascends l (field row q left) ≡ true
@@ -76,11 +85,11 @@ behind c = field (c .row + 1) (c .place + 1) (c .left)
 
 module _ {s : List ℕ} {at : ℕ} {c : Field} {l : List ℕ} (p : AtPair s at c l) where
   pub here-placed : Placed c
-  here-placed = placed (p .readable .valid) (omega (arith, going (p .pair)))
+  here-placed = placed (p .item .readable .valid) (omega (arith, going (p .pair)))
 
   module _ (a : ℕ) (good : inRange l c a ≡ true) where
     behind-valid : Valid (behind c)
-    behind-valid = ranged-later (p .readable .valid) (omega (arith, going (p .pair))) l a good (sym (first-next l (c .place) (c .left) a (p .pair))) .valid
+    behind-valid = ranged-later (p .item .readable .valid) (omega (arith, going (p .pair))) l a good (sym (first-next l (c .place) (c .left) a (p .pair))) .valid
 
     pub behind-placed : Placed (behind c)
     behind-placed = placed behind-valid (going (p .pair))
@@ -116,47 +125,14 @@ module _ {s : List ℕ} {at : ℕ} {c : Field} {l : List ℕ} (p : AtPair s at c
       ∙ ap (λ (k : ℕ). readFrom (suc n) s (f .middle) k (behind c) half) (starts (p .pair) at start (c .place) (c .left))
       ∙ read-on s (f .middle) at (behind c) half n (going (p .pair)) (f .b) (f .next) (f .second-read) second-ranged (second-ascends whole (c .place + 1) (c .left) 0 (p .pair))
       ∙ ap (λ (k : ℕ). readFrom n s (f .next) k (nextField (behind c) (f .b)) whole) (goes-on (p .pair) (f .middle) at (c .place + 1) (c .left))
-      ∙ ap (λ (d : Field). readFrom n s (f .next) at d whole) (second-next l (c .place + 1) (c .left) (f .b) (p .pair) (p .more))
+      ∙ ap (λ (d : Field). readFrom n s (f .next) at d whole) (second-next l (c .place + 1) (c .left) (f .b) (p .pair) (p .item .more))
 
   two-valid : Valid after
   two-valid =
       ranged-later (behind-valid p (f .a) (f .first-good)) (going (p .pair)) half (f .b) second-ranged
-      (sym (second-next l (c .place + 1) (c .left) (f .b) (p .pair) (p .more))) .valid
+      (sym (second-next l (c .place + 1) (c .left) (f .b) (p .pair) (p .item .more))) .valid
 
-  one-on : pastPairs c 1 ≡ after
-  one-on = let e : c .place + places.edgeWidth * 1 ≡ c .place + 1 + 1 = omega arith in ap (λ (q : ℕ). field (c .row) q (c .left - 1)) e
-
-  pub pair-read : PairsRead s at c l whole 1 (f .next)
-  pair-read =
-      record {
-        few = p .more;
-        inside = number-ends _ _ _ _ (f .second-read) .2;
-        valid = rw one-on two-valid;
-        long = simp length-set (p .readable .long);
-        same = λ n start.
-            let two : n + places.edgeWidth * 1 ≡ suc (suc n) = omega arith in
-            rw (two, one-on) (two-read n start ∙ start-free n s (f .next) at start after whole (first-kind (p .pair)));
-      }
-
-  pub pair-taken : PairTaken s at c l whole (f .next)
+  pub pair-taken : ItemTaken s at c l whole (f .next)
   pair-taken =
-      record { left = λ e. let z : ⊥ = omega (arith, number-ends _ _ _ _ (f .second-read) .0, e) in elim z [ ]; taken = λ h. pair-read }
-
-pub none-taken : {s : List ℕ} {at : ℕ} {c : Field} {l : List ℕ} → PairTaken s at c l l 0
-none-taken = record { left = λ e. refl; taken = λ h. let z : ⊥ = omega (arith, h) in elim z [ ] }
-
--- A run and one item more.
-pub one-more : {s : List ℕ} {at : ℕ} {c : Field} {l m w : List ℕ} {k pos end : ℕ} → PairsRead s at c l m k pos → PairsRead s pos (pastPairs c k) m w 1 end →
-    PairsRead s at c l w (k + 1) end
-one-more {s} {at} {c} {l} {m} {w} {k} {pos} {end} run item =
-    let place : c .place + places.edgeWidth * (k + 1) ≡ c .place + places.edgeWidth * k + places.edgeWidth * 1 = omega arith in
-    let left : c .left - (k + 1) ≡ c .left - k - 1 = omega arith in
-    record {
-      few = omega (arith, item .few, run .few);
-      inside = item .inside;
-      valid = rw (place, left) (item .valid);
-      long = item .long;
-      same = λ n start.
-          let count : n + places.edgeWidth * (k + 1) ≡ n + places.edgeWidth * 1 + places.edgeWidth * k = omega arith in
-          rw (count, place, left) (run .same (n + places.edgeWidth * 1) start ∙ item .same n start);
-    }
+      let ends = number-ends _ _ _ _ (f .second-read) in
+      one-taken (omega (arith, ends .0)) (item-read (p .item .more) (ends .2) (simp length-set (p .item .readable .long)) (first-kind (p .pair)) two-valid two-read)

@@ -1,9 +1,8 @@
 -- Functions and vertices: items of two numbers, in no order.
-use Prim.Native.Nat.{ℕ, _<_}
-use mathlib.Core.Path.{_≡_}
+use Prim.Native.Nat.{ℕ}
 use mathlib.Core.List.{List}
 use Rattle.model.specs.declared.Field.{Field}
-use Rattle.edge_runs.specs.Edges.{Readable, PairsRead}
+use Rattle.edge_runs.specs.Edges.{AtItem}
 use Rattle.model.specs.Rows as rows
 
 -- The rows of their first numbers.
@@ -11,13 +10,12 @@ pub data Pair : ℕ → Type 0 where
   functions : Pair rows.size
   vertices : Pair rows.function
 
--- What reading one item asks: a field of its first number, with others to follow in the list.
-pub record AtPair (s : List ℕ) (at : ℕ) (c : Field) (l : List ℕ) : Type 0 where
-  pub readable : Readable s at c l
-  pub pair : Pair (c .row)
-  pub more : 0 < c .left
+-- The rows of the first numbers of all items of two numbers.
+pub data Item : ℕ → Type 0 where
+  pair : {row : ℕ} → Pair row → Item row
+  edge : Item rows.from
 
--- One item is read, which ends at a position; or the position is 0, and nothing is read.
-pub record PairTaken (s : List ℕ) (at : ℕ) (c : Field) (l m : List ℕ) (end : ℕ) : Type 0 where
-  pub left : end ≡ 0 → m ≡ l
-  pub taken : 0 < end → PairsRead s at c l m 1 end
+-- What reading one of them asks: a field of its first number, with others to follow in the list.
+pub record AtPair (s : List ℕ) (at : ℕ) (c : Field) (l : List ℕ) : Type 0 where
+  pub item : AtItem s at c l
+  pub pair : Pair (c .row)

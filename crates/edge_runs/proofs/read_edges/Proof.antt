@@ -118,11 +118,8 @@ loop-less c = omega (arith, loop (c .before) .loop-test .taken)
 loop-again : tie.Need-loop-again Inv-loop μ-loop
 loop-again c =
     let running = loop (c .before) .before .loop .inv in
-    turn running (record {
-      room = omega (arith, room (loop (c .before)), running .done .long);
-      bytes = omega (arith, inside (c .before) .if2 .left);
-      between = between (omega (arith, running .late)) (omega (arith, loop (c .before) .loop-test .taken)) (running .here) (running .few) (c .before .follows .ensures (not-false _ (c .if3 .left)));
-    })
+    turn running (omega (arith, inside (c .before) .if2 .left))
+    (between (omega (arith, running .late)) (omega (arith, loop (c .before) .loop-test .taken)) (running .here) (running .few) (c .before .follows .ensures (not-false _ (c .if3 .left))))
 
 returns-4 : tie.Need-returns-4 Inv-loop μ-loop
 returns-4 c = ended (opens (c .before .before)) (c .before .loop .inv)
