@@ -95,9 +95,6 @@ fn long_number(file: &[u8], at: &mut usize) -> Result<u32, Refusal> {
         }
         value |= u32::from(byte & 0x7F) << (7 * group);
         if byte < 0x80 {
-            if byte == 0 {
-                return Err(Refusal::at(2, start));
-            }
             *at = start + group + 1;
             return Ok(value);
         }

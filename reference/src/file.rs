@@ -1,8 +1,11 @@
-//! The problem file: refusals 1 to 5 in reading, 3 and 4 in writing.
+//! The problem file: refusals 1 to 5 in reading, 3 and 4 in writing. Numbers may be padded in reading; what is written is the shortest file.
 
 use std::ops::RangeInclusive;
 
 use crate::problem::*;
+
+/// The most bytes that a number may have.
+pub const MOST_BYTES: usize = 5;
 
 /// A place in a file that is being read.
 struct Cursor<'a> {
@@ -11,22 +14,19 @@ struct Cursor<'a> {
 }
 
 impl Cursor<'_> {
-    /// The next number, which must lie in `range`.
+    /// The next number, padded or not, which must lie in `range`.
     fn number(&mut self, range: RangeInclusive<u32>) -> Result<u32, Refusal> {
         let start = self.at;
         let mut value = 0;
-        for group in 0..5 {
+        for group in 0..MOST_BYTES {
             let Some(&byte) = self.file.get(start + group) else {
                 return Err(Refusal::at(1, self.file.len()));
             };
-            if group == 4 && byte > 0x0F {
+            if group == MOST_BYTES - 1 && byte > 0x0F {
                 return Err(Refusal::at(2, start));
             }
             value |= u32::from(byte & 0x7F) << (7 * group);
             if byte & 0x80 == 0 {
-                if byte == 0 && group > 0 {
-                    return Err(Refusal::at(2, start));
-                }
                 self.at = start + group + 1;
                 break;
             }
@@ -90,7 +90,7 @@ pub fn parse(file: &[u8]) -> Result<Problem, Refusal> {
     Ok(Problem { scratchpad, functions, vertices, edges, loops })
 }
 
-/// One number as a file spells it.
+/// One number in as few bytes as it needs.
 pub fn spell(value: u32) -> Vec<u8> {
     let mut bytes = Vec::new();
     let mut rest = value;
@@ -100,6 +100,16 @@ pub fn spell(value: u32) -> Vec<u8> {
     }
     bytes.push(rest as u8);
     bytes
+}
+
+/// One number in so many bytes, where it needs fewer: padded with groups of zero. In more than [`MOST_BYTES`] it is misspelt.
+pub fn spell_in(value: u32, bytes: usize) -> Vec<u8> {
+    let mut padded = spell(value);
+    while padded.len() < bytes {
+        *padded.last_mut().expect("no number is empty") |= 0x80;
+        padded.push(0);
+    }
+    padded
 }
 
 /// A file that is being written.

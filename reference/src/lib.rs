@@ -46,7 +46,7 @@ pub fn read(file: &[u8]) -> Result<Problem, Refusal> {
     Ok(problem)
 }
 
-/// Write, for a problem given as its file: the bytes written.
+/// Write, for a problem given as its file: the bytes written, those of the shortest file with its content.
 pub fn write(file: &[u8], out: &mut [u8]) -> Result<usize, Refusal> {
     let problem = read(file)?;
     write_problem(&problem, problem.counts(), out)

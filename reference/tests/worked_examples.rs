@@ -258,3 +258,12 @@ fn three_hundred_is_ac_02() {
     assert_eq!(file::spell(0), [0x00]);
     assert_eq!(file::spell(u32::MAX), [0xFF, 0xFF, 0xFF, 0xFF, 0x0F]);
 }
+
+#[test]
+fn five_in_five_bytes_is_85_80_80_80_00() {
+    assert_eq!(file::spell_in(5, 5), [0x85, 0x80, 0x80, 0x80, 0x00]);
+    assert_eq!(file::spell_in(5, 1), [0x05]);
+    assert_eq!(file::spell_in(0, 2), [0x80, 0x00]);
+    assert_eq!(file::spell_in(300, 3), [0xAC, 0x82, 0x00]);
+    assert_eq!(file::spell_in(u32::MAX, 5), file::spell(u32::MAX));
+}

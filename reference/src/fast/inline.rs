@@ -13,7 +13,7 @@ use crate::problem::{Refusal, MOST_EDGES, MOST_FUNCTIONS, MOST_LOOPS, MOST_SIZE,
 const VERTICES: usize = 3;
 const EDGES: usize = VERTICES + 2 * MOST_VERTICES + 1;
 const LOOPS: usize = EDGES + 2 * MOST_EDGES + 1;
-/// The longest file.
+/// The longest file that is written.
 const LONGEST: usize = 2_091;
 
 /// The numbers of a graph.
