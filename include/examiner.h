@@ -6,6 +6,10 @@
  * seven bits, lowest group first. Every function judges the file before anything else. examiner_inline and examiner_write_fields make
  * such a file: from a drawing, one graph a function, and from the problem's numbers.
  *
+ * A number may be padded with groups of zero, up to five bytes: 5 is 05, or 85 00, or 85 80 80 80 00 (hexadecimal). What a function
+ * answers does not depend on it, but for the places of refusals 1 to 5. What is written is always the shortest file with the problem's
+ * content.
+ *
  * RESULTS
  *   Each function returns 0, or the number of a refusal with its place in answer[0]. Places of `answer` that a result does not use
  *   keep their values. On a refusal all other lent memory keeps its values too: `out`, `words`, `held`, examiner_eviction's `walk` and
@@ -21,10 +25,9 @@
  *     to memory that is lent to a call.
  *
  * REFUSALS, by number and name
- *   in the file, field by field
+ *   in the file, field by field; places are positions of the bytes given, or, in writing a record, of the bytes it would write
  *     1  EndsEarly           the bytes end before a number does               place: the file's length
- *     2  Misspelt            a fifth byte above 0F (hexadecimal), or a zero
- *                            last byte after others                           place: the number's first byte
+ *     2  Misspelt            a fifth byte above 0F (hexadecimal)              place: the number's first byte
  *     3  OutOfRange          a number out of range                            place: its first byte
  *     4  NotAscending        edges by (from, to), loops by header             place: the item's first byte
  *     5  LeftOver            bytes left over after the last loop              place: the first of them
@@ -111,8 +114,8 @@ extern "C" {
 uint32_t examiner_read(const uint8_t *file, size_t file_length, uint64_t *answer);
 
 /*
- * Write: writes the problem back into `out`. An accepted file comes back byte for byte. Bytes of `out` past the file keep their
- * values.
+ * Write: writes the problem back into `out`, as the shortest file with its content. So a file with no padded number comes back byte for
+ * byte, and a padded one may go into fewer bytes than it has. Bytes of `out` past what is written keep their values.
  *
  * On 0: answer[0] the bytes written.
  * Refusals: those of examiner_read, then 10 (bytes needed).

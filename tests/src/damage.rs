@@ -1,8 +1,9 @@
 //! Damaged files and records.
 
-use reference::file::spell;
+use reference::file::{spell, spell_in, MOST_BYTES};
 use reference::problem::*;
 
+use crate::padding::padded;
 use crate::random::Random;
 
 /// The numbers of a file in order.
@@ -58,9 +59,9 @@ pub const ODD_VALUES: [u32; 24] = [
 ];
 
 /// What [`damaged_file`] does to a file.
-pub const FILE_DAMAGES: u32 = 9;
+pub const FILE_DAMAGES: u32 = 10;
 
-/// A file with one thing done to its bytes, by number below [`FILE_DAMAGES`].
+/// A file with one thing done to its bytes, by number below [`FILE_DAMAGES`]. What comes out need not be refused: padding is no fault.
 pub fn damaged_file(random: &mut Random, problem: &Problem, damage: u32) -> Vec<u8> {
     let mut numbers = numbers(problem);
     let mut file = spelled(&numbers);
@@ -85,23 +86,19 @@ pub fn damaged_file(random: &mut Random, problem: &Problem, damage: u32) -> Vec<
             numbers[number] = numbers[number].wrapping_add(random.field(0..=4)).wrapping_sub(2);
             file = spelled(&numbers);
         }
-        // the number padded with groups of zero
+        // one number with up to five groups of zero behind it: padded, or misspelt in more than five bytes
         6 => {
-            let zeros = random.count(1..=5);
-            let mut padded = file[start..start + length].to_vec();
-            for _ in 0..zeros {
-                *padded.last_mut().expect("no number is empty") |= 0x80;
-                padded.push(0);
-            }
+            let padded = spell_in(numbers[number], length + random.count(1..=MOST_BYTES));
             file.splice(start..start + length, padded);
         }
-        // five bytes, the fifth anything
+        // five bytes, the fifth anything: padded where it is 0, misspelt above 0F
         7 => {
-            let mut five = random.bytes(5);
+            let mut five = random.bytes(MOST_BYTES);
             five[..4].iter_mut().for_each(|byte| *byte |= 0x80);
             five[4] = *random.pick(&[0, 1, 7, 0x0F, 0x10, 0x1F, 0x7F, 0x80, 0xFF]);
             file.splice(start..start + length, five);
         }
+        8 => file = padded(random, &numbers),
         // the file ends inside a number
         _ => {
             file.truncate(start);

@@ -1,10 +1,11 @@
-//! What the tests and the benchmark share: seeded problems, drawings, layouts and walks, lawful and damaged, and what they are like.
+//! What the tests and the benchmark share: seeded problems, files, drawings, layouts and walks, lawful and damaged, and what they are like.
 
 pub mod damage;
 pub mod drawings;
 pub mod evictions;
 pub mod layouts;
 pub mod lent;
+pub mod padding;
 pub mod problems;
 pub mod random;
 pub mod totals;

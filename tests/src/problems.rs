@@ -232,7 +232,7 @@ pub fn lawful(random: &mut Random, plan: &Plan) -> Problem {
     }
 }
 
-/// A problem with every count at its greatest, whose numbers are as long as their ranges allow: its file is the longest there is.
+/// A problem with every count at its greatest, whose numbers are as long as their ranges allow: no longer file is written.
 pub fn longest(random: &mut Random) -> Problem {
     loop {
         let plan = Plan { dead: 0, ..Plan::largest(random) };

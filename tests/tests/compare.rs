@@ -8,6 +8,8 @@
 
 #[path = "compare/evictions.rs"]
 mod evictions;
+#[path = "compare/padding.rs"]
+mod padding;
 
 use std::collections::BTreeMap;
 use std::panic::{catch_unwind, AssertUnwindSafe};
@@ -17,6 +19,7 @@ use std::time::Instant;
 use examiner_tests::damage::*;
 use examiner_tests::drawings::{self, drawn, DrawingPlan, DRAWING_DAMAGES};
 use examiner_tests::lent::Lent;
+use examiner_tests::padding::{in_five_bytes, padded};
 use examiner_tests::problems::{followed_by, lawful, longest, with_total, Amounts, Plan};
 use examiner_tests::random::Random;
 use examiner_tests::totals::{self, Priced};
@@ -156,16 +159,17 @@ impl Comparison {
         self.asked = Asked { file: file.to_vec(), ..Asked::default() };
         let lent = Lent::holding(&mut self.random, file);
         let before = lent.clone();
-        let expected = reference::read(file).map(|problem| {
-            let Counts { functions, vertices, edges, loops } = problem.counts();
-            [functions, vertices, edges, loops].map(u64::from).to_vec()
-        });
+        let counts = reference::read(file).map(|problem| problem.counts());
+        let expected = counts.map(|c| [c.functions, c.vertices, c.edges, c.loops].map(u64::from).to_vec());
         let part = lent.part();
         // SAFETY: the part and the answer are valid for the call, and apart.
         self.call("examiner_read", &expected, |answer| unsafe { examiner::raw::examiner_read(part.as_ptr(), part.len(), answer) });
         let wrapped = plain(examiner::read(part)).map(|c| [c.functions, c.vertices, c.edges, c.loops].map(|count| count as u64).to_vec());
         assert_eq!(wrapped, expected);
         assert_eq!(lent, before);
+        if let Ok(counts) = counts {
+            self.spelt(file, counts);
+        }
     }
 
     fn write(&mut self, file: &[u8], length: usize) {
@@ -183,8 +187,9 @@ impl Comparison {
         });
         assert_eq!(plain(examiner::write(part, wrapper_out.part_mut())), written);
         assert_eq!((&out, &wrapper_out, &lent), (&wanted, &wanted, &before));
-        if let Ok(bytes) = written {
-            assert_eq!(&out.part()[..bytes], file, "an accepted file comes back byte for byte");
+        match written {
+            Ok(bytes) => self.written_back(file, &out.part()[..bytes], length),
+            Err(refusal) => self.refused_to_write(file, refusal),
         }
     }
 
@@ -427,13 +432,17 @@ impl Comparison {
     /// Every operation on one file that need not be lawful.
     fn file(&mut self, file: &[u8]) {
         self.read(file);
-        let length = match self.random.count(0..=3) {
-            0 => self.random.count(0..=file.len()),
-            1 => file.len(),
+        let problem = reference::read(file);
+        // a padded file is longer than what is written of it
+        let needed = problem.as_ref().map_or(file.len(), |problem| file_of(problem).len());
+        let length = match self.random.count(0..=4) {
+            0 => self.random.count(0..=needed),
+            1 => needed,
+            2 => self.random.count(needed..=file.len()),
             _ => file.len() + self.random.count(0..=9),
         };
         self.write(file, length);
-        let words = reference::read(file).map_or(9, |problem| problem.vertices.len() * problem.functions.len());
+        let words = problem.map_or(9, |problem| problem.vertices.len() * problem.functions.len());
         let length = match self.random.count(0..=3) {
             0 => self.random.count(0..=words),
             1 => words,
@@ -588,7 +597,8 @@ fn damaged_bytes(c: &mut Comparison) {
             _ => Plan::small(&mut c.random, 10),
         };
         let problem = lawful(&mut c.random, &plan);
-        let file = damaged_file(&mut c.random, &problem, case as u32 % FILE_DAMAGES);
+        let damage = c.random.field(0..=FILE_DAMAGES - 1);
+        let file = damaged_file(&mut c.random, &problem, damage);
         c.file(&file);
         let layout = layouts::any(&mut c.random, plan.functions);
         c.layout_and_walk(&file, &layout, &[0]);
@@ -602,18 +612,21 @@ fn every_cut(c: &mut Comparison) {
     let plan = Plan::largest(&mut c.random);
     problems.push(lawful(&mut c.random, &plan));
     for problem in problems {
-        let file = file_of(&problem);
-        for length in 0..=file.len() {
-            c.read(&file[..length]);
-            c.write(&file[..length], file.len());
+        let numbers = numbers(&problem);
+        for file in [spelled(&numbers), in_five_bytes(&numbers), padded(&mut c.random, &numbers)] {
+            for length in 0..=file.len() {
+                c.read(&file[..length]);
+                c.write(&file[..length], file.len());
+            }
         }
     }
 }
 
 fn every_value_of_every_byte(c: &mut Comparison) {
     // with all functions in one region, so that the whole file has its say in Bound
-    let cases = [(M10.to_vec(), &[0][..]), (file_of(&p()), &[0, 0, 0]), (file_of(&q()), &[0, 0]), (file_of(&r()), &[0, 0])];
-    for (file, shared) in cases {
+    let short = [(M10.to_vec(), &[0][..]), (file_of(&p()), &[0, 0, 0]), (file_of(&q()), &[0, 0]), (file_of(&r()), &[0, 0])];
+    let padded = [(in_five_bytes(&M10.map(u32::from)), &[0][..]), (in_five_bytes(&numbers(&r())), &[0, 0])];
+    for (file, shared) in short.into_iter().chain(padded) {
         for at in 0..file.len() {
             for value in 0..=255 {
                 let mut file = file.clone();
@@ -770,13 +783,17 @@ fn totals_at_the_limit(c: &mut Comparison) {
     }
 }
 
-/// The longest lawful file, spoilt near its end, and input that is far longer.
+/// The longest file that is written, the same padded, spoilt near its end, and input that is far longer.
 fn long_files(c: &mut Comparison) {
     for _ in 0..5 {
         let problem = longest(&mut c.random);
         let file = file_of(&problem);
         assert_eq!(file.len(), 2_091);
         c.problem(&problem);
+        let padded = in_five_bytes(&numbers(&problem));
+        assert_eq!(padded.len(), 7_230);
+        c.file(&padded);
+        c.file(&[&padded[..], &[0]].concat());
         let mut last_bound = file[..2_088].to_vec();
         last_bound.extend([0xFF, 0xFF, 0xFF, 0xFF, 0x10]);
         assert_eq!(reference::read(&last_bound), Err(Refusal { number: 2, place: 2_088 }));
@@ -1067,7 +1084,7 @@ fn empty_slices(c: &mut Comparison) {
 fn main() {
     let mut comparison = Comparison::new();
     type Group = fn(&mut Comparison);
-    // the quick ones first, of files and of drawings; then the two totals, and evictions
+    // the quick ones first, of files and of drawings; then the two totals, evictions, and padded files
     let groups: &[(&str, Group)] = &[
         ("empty slices", empty_slices),
         ("random small graphs", any_small_graph),
@@ -1091,6 +1108,8 @@ fn main() {
         ("totals at the limit", totals_at_the_limit),
         ("worked evictions", evictions::worked_evictions),
         ("readings of evictions", evictions::readings_of_evictions),
+        ("padded files", padding::padded_files),
+        ("spoilt padded files", padding::spoilt_padded_files),
     ];
     for (index, (name, group)) in groups.iter().enumerate() {
         let started = Instant::now();
@@ -1125,7 +1144,9 @@ fn main() {
         assert!(*times > 0, "there was never {what}");
     }
     let refused_drawings = DRAWING_REFUSED.map(|(_, what)| (what, LEAST_REFUSED));
-    for (what, least) in LEAST.into_iter().chain(refused_drawings).chain(least_of_totals()).chain(evictions::least()) {
+    for (what, least) in
+        LEAST.into_iter().chain(refused_drawings).chain(least_of_totals()).chain(evictions::least()).chain(padding::least())
+    {
         assert!(comparison.seen[what] >= least, "there was too seldom {what}");
     }
     println!("\n{} calls agree; every refusal from 1 to 21 was met", comparison.calls.values().sum::<usize>());

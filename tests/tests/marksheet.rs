@@ -9,12 +9,13 @@ use std::process::{Command, Output, Stdio};
 use std::time::Duration;
 use std::{env, process, thread};
 
-use examiner_tests::damage::{damaged_file, file_of, FILE_DAMAGES};
-use examiner_tests::problems::{lawful, with_total, Plan};
+use examiner_tests::damage::{damaged_file, file_of, numbers, FILE_DAMAGES};
+use examiner_tests::padding::in_five_bytes;
+use examiner_tests::problems::{lawful, longest, with_total, Plan};
 use examiner_tests::random::Random;
 use examiner_tests::{effort, layouts};
 use reference::examples::{p, t, M10};
-use reference::problem::MOST_BOUND;
+use reference::problem::{Problem, MOST_BOUND};
 
 /// A folder of its own to start the program in, removed afterwards.
 struct Desk(PathBuf);
@@ -121,6 +122,17 @@ fn a_layout_file_is_priced_or_refused() {
 #[test]
 fn one_of_two_helpers_is_a_first_load() {
     prints(&Desk::new("helpers").mark(&file_of(&t())), "need 3\ncharged 0\nfirst 9\nbound 12\n");
+}
+
+#[test]
+fn a_padded_file_has_the_slip_of_the_shortest() {
+    let padded = |problem: &Problem| in_five_bytes(&numbers(problem));
+    prints(&Desk::new("padded").with_layout(&[0, 1, 1]).mark(&padded(&p())), OF_P);
+    prints(&Desk::new("five-bytes").mark(&in_five_bytes(&M10.map(u32::from))), OF_M10);
+    let problem = longest(&mut Random::seeded(6));
+    let layout = [0; 32];
+    prints(&Desk::new("longest").with_layout(&layout).mark(&padded(&problem)), &slip(&file_of(&problem), &layout));
+    prints(&Desk::new("left-over").mark(&[padded(&problem), vec![0]].concat()), "refused 5 at 7230\n");
 }
 
 #[test]

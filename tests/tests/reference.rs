@@ -359,7 +359,7 @@ fn bounds_where_one_total_passes_the_limit() {
 }
 
 #[test]
-fn the_longest_lawful_file() {
+fn the_longest_file_that_is_written() {
     let file = file_of(&longest(&mut Random::seeded(6)));
     assert_eq!(file.len(), 2_091);
     assert!(reference::read(&file).is_ok());

@@ -7,6 +7,10 @@
 //! Every operation takes the problem as its file, and judges that first; [`inline`] makes such a file from a program drawn function by
 //! function. The code behind this wrapper is proved against its definitions for every input; the wrapper is the only Rust code in between.
 //!
+//! A number of a file may be padded with groups of zero, up to five bytes: 5 is 05, or 85 00, or 85 80 80 80 00 (hexadecimal). What an operation
+//! answers does not depend on it, but for the places of [`EndsEarly`](RefusalKind::EndsEarly) to [`LeftOver`](RefusalKind::LeftOver). What is
+//! written is always the shortest file with the problem's content.
+//!
 //! ```
 //! // one function of 8 bytes with load cost 5, one vertex of cost 10, scratchpad 8
 //! let file = [0x01, 0x08, 0x01, 0x08, 0x05, 0x01, 0x00, 0x0A, 0x00, 0x00];
@@ -90,8 +94,21 @@ pub fn read(file: &[u8]) -> Result<Counts, Refusal> {
     Ok(Counts { functions, vertices, edges, loops })
 }
 
-/// Writes the problem that `file` holds into `out`, and gives the number of bytes written. An accepted file comes back byte for byte.
-/// Bytes of `out` past the file keep their values, and all of them on a refusal.
+/// Writes the problem that `file` holds into `out`, as the shortest file with its content, and gives the number of bytes written. So a file
+/// with no padded number comes back byte for byte, and a padded one may go into fewer bytes than it has. Bytes of `out` past what is written
+/// keep their values, and all of them on a refusal.
+///
+/// ```
+/// use examiner::{write, Refusal, RefusalKind};
+///
+/// // scratchpad 8 in five bytes, one function of 8 bytes with load cost 5 in two bytes, one vertex of cost 10
+/// let padded = [0x01, 0x88, 0x80, 0x80, 0x80, 0x00, 0x01, 0x08, 0x85, 0x00, 0x01, 0x00, 0x0A, 0x00, 0x00];
+/// let mut out = [0; 10];
+/// assert_eq!(write(&padded, &mut out)?, 10);
+/// assert_eq!(out, [0x01, 0x08, 0x01, 0x08, 0x05, 0x01, 0x00, 0x0A, 0x00, 0x00]);
+/// assert_eq!(write(&padded, &mut out[..9]), Err(Refusal { number: RefusalKind::BufferTooShort, place: 10 }));
+/// # Ok::<(), examiner::Refusal>(())
+/// ```
 ///
 /// # Errors
 /// As [`read`]; then [`BufferTooShort`](RefusalKind::BufferTooShort).

@@ -11,7 +11,7 @@ use std::fmt;
 pub enum RefusalKind {
     /// 1: the bytes end before a number does. The place is the file's length.
     EndsEarly = 1,
-    /// 2: a misspelt number: a fifth byte above 0F, or a zero last byte after others. The place is its first byte.
+    /// 2: a misspelt number: a fifth byte above 0F. The place is its first byte.
     Misspelt = 2,
     /// 3: a number out of range. The place is its first byte.
     OutOfRange = 3,

@@ -5,9 +5,10 @@
 use std::hint::black_box;
 use std::time::{Duration, Instant};
 
-use examiner_tests::damage::file_of;
+use examiner_tests::damage::{file_of, numbers};
 use examiner_tests::drawings::drawn;
 use examiner_tests::evictions::{Shown, REASONS};
+use examiner_tests::padding::in_five_bytes;
 use examiner_tests::problems::{lawful, Amounts, Plan};
 use examiner_tests::random::Random;
 use examiner_tests::walks;
@@ -80,6 +81,11 @@ impl Subject {
     /// The same problem under another layout.
     fn under(&self, layout: Vec<u8>) -> Subject {
         Subject { layout, ..self.clone() }
+    }
+
+    /// The same problem by a file with every number in five bytes.
+    fn padded(&self) -> Subject {
+        Subject { name: format!("{}, padded", self.name), file: in_five_bytes(&numbers(&self.problem)), ..self.clone() }
     }
 }
 
@@ -310,6 +316,8 @@ fn main() {
     println!("|---|---|---|---|---|---|");
     for subject in &subjects {
         row("Read", subject, read(subject), |_, _| format!("{} bytes", subject.file.len()));
+        let padded = subject.padded();
+        row("Read", &padded, read(&padded), |_, _| format!("{} bytes, five a number", padded.file.len()));
     }
     for subject in &subjects {
         row("Interference", subject, interference(subject), |_, _| "4,096 words".to_string());

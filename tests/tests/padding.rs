@@ -1,0 +1,190 @@
+//! Padded numbers: the readings that were settled, asked of the library and of the independent implementation, by its plain methods and by its
+//! quick ones.
+
+use examiner_tests::damage::{file_of, numbers, spelled};
+use examiner_tests::padding::in_five_bytes;
+use examiner_tests::problems::longest;
+use examiner_tests::random::Random;
+use reference::examples::{p, q, r, M10};
+use reference::fast;
+use reference::file::{spell, spell_in, MOST_BYTES};
+use reference::problem::{Edge, Problem, Refusal, MOST_SIZE};
+
+/// What an operation gives, or the number and the place of the refusal.
+type Said<T> = Result<T, (u32, u64)>;
+
+fn by_library<T>(result: Result<T, examiner::Refusal>) -> Said<T> {
+    result.map_err(|refusal| (refusal.number.number(), refusal.place))
+}
+
+fn by_reference<T>(result: Result<T, Refusal>) -> Said<T> {
+    result.map_err(|refusal| (u32::from(refusal.number), refusal.place))
+}
+
+/// Read: the number of vertices.
+fn read(file: &[u8]) -> Said<usize> {
+    let said = by_library(examiner::read(file)).map(|counts| counts.vertices);
+    assert_eq!(by_reference(reference::read(file)).map(|problem| problem.vertices.len()), said, "{file:02X?}");
+    assert_eq!(by_reference(fast::read(file)).map(|flat| flat.counts()[1]), said, "{file:02X?}");
+    said
+}
+
+/// Bound: the bound.
+fn bound(file: &[u8], layout: &[u8]) -> Said<u64> {
+    let said = by_library(examiner::bound(file, layout)).map(|bound| bound.bound);
+    assert_eq!(by_reference(reference::bound(file, layout)).map(|bound| bound.bound), said, "{file:02X?}");
+    assert_eq!(by_reference(fast::bound(file, layout)).map(|bound| bound.bound), said, "{file:02X?}");
+    said
+}
+
+/// Write into so many bytes: those written.
+fn write(file: &[u8], length: usize) -> Said<Vec<u8>> {
+    let mut out = vec![0xA5; length];
+    let mut out_of_reference = out.clone();
+    let said = by_library(examiner::write(file, &mut out));
+    assert_eq!(by_reference(reference::write(file, &mut out_of_reference)), said, "{file:02X?}");
+    assert_eq!(out_of_reference, out, "{file:02X?}");
+    said.map(|bytes| out[..bytes].to_vec())
+}
+
+/// Write on the record of a problem: the number of bytes.
+fn write_fields(problem: &Problem) -> Said<u64> {
+    let fields = problem.to_fields();
+    let (mut out, mut answer) = ([0; 99], [0; 4]);
+    // SAFETY: a record has a place for each field; it, `out` and `answer` are valid for the call, and apart.
+    let number = unsafe { examiner::raw::examiner_write_fields(fields.as_ptr(), out.as_mut_ptr(), out.len(), answer.as_mut_ptr()) };
+    let said = if number == 0 { Ok(answer[0]) } else { Err((number, answer[0])) };
+    assert_eq!(by_reference(reference::write_fields(&fields, &mut [0; 99])).map(|bytes| bytes as u64), said);
+    said
+}
+
+fn m10() -> Problem {
+    reference::read(&M10).expect("accepted")
+}
+
+/// M10 with other bytes for one of its numbers, each of which has one.
+fn m10_with(number: usize, spelling: &[u8]) -> Vec<u8> {
+    [&M10[..number], spelling, &M10[number + 1..]].concat()
+}
+
+/// Which numbers of M10 are put in other spellings. Its bound is 5 cycles and the own cost.
+const SCRATCHPAD: usize = 1;
+const OWN_COST: usize = 7;
+
+#[test]
+fn a_padded_number_is_what_it_is_without_padding() {
+    let readings: [(u64, &[&[u8]]); 3] = [
+        (5, &[&[0x05], &[0x85, 0x00], &[0x85, 0x80, 0x00], &[0x85, 0x80, 0x80, 0x80, 0x00]]),
+        (0, &[&[0x00], &[0x80, 0x00], &[0x80, 0x80, 0x80, 0x80, 0x00]]),
+        (300, &[&[0xAC, 0x02], &[0xAC, 0x82, 0x00], &[0xAC, 0x82, 0x80, 0x80, 0x00]]),
+    ];
+    for (value, spellings) in readings {
+        for spelling in spellings {
+            let file = m10_with(OWN_COST, spelling);
+            assert_eq!(bound(&file, &[]), Ok(5 + value), "{spelling:02X?}");
+            assert_eq!(write(&file, file.len()), Ok(m10_with(OWN_COST, spellings[0])), "{spelling:02X?}");
+        }
+    }
+}
+
+/// Values at the ends of what so many groups hold, in every number of bytes from those needed on.
+#[test]
+fn every_length_from_the_shortest_to_five_bytes() {
+    for value in [0, 1, 127, 128, 16_383, 16_384, 2_097_151, 2_097_152, MOST_SIZE] {
+        for bytes in spell(value).len()..=MOST_BYTES {
+            assert_eq!(bound(&m10_with(OWN_COST, &spell_in(value, bytes)), &[]), Ok(5 + u64::from(value)), "{value} in {bytes} bytes");
+        }
+        assert_eq!(read(&m10_with(OWN_COST, &spell_in(value, MOST_BYTES + 1))), Err((2, 7)), "{value} in six bytes");
+    }
+}
+
+/// No range reaches so far: that these are out of range shows that they are well spelt.
+#[test]
+fn a_fifth_byte_up_to_0f_is_judged_by_its_range() {
+    for spelling in [[0x80, 0x80, 0x80, 0x80, 0x01], [0x80, 0x80, 0x80, 0x80, 0x0F], [0xFF, 0xFF, 0xFF, 0xFF, 0x0F]] {
+        for number in [SCRATCHPAD, OWN_COST] {
+            assert_eq!(read(&m10_with(number, &spelling)), Err((3, number as u64)), "{spelling:02X?}");
+        }
+    }
+}
+
+#[test]
+fn a_fifth_byte_above_0f_is_misspelt() {
+    let misspelt: [&[u8]; 4] =
+        [&[0x80, 0x80, 0x80, 0x80, 0x10], &[0xFF, 0xFF, 0xFF, 0xFF, 0x1F], &[0x80; 5], &[0x85, 0x80, 0x80, 0x80, 0x80, 0x00]];
+    for spelling in misspelt {
+        for number in 0..M10.len() {
+            assert_eq!(read(&m10_with(number, spelling)), Err((2, number as u64)), "{spelling:02X?}");
+            // a sixth byte is not looked at
+            assert_eq!(read(&m10_with(number, spelling)[..number + 5]), Err((2, number as u64)), "{spelling:02X?}");
+        }
+    }
+}
+
+#[test]
+fn four_bytes_and_the_end_are_1_at_the_length() {
+    for number in 0..M10.len() {
+        for bytes in 0..=4 {
+            let file = [&M10[..number], &vec![0x80; bytes]].concat();
+            assert_eq!(read(&file), Err((1, file.len() as u64)));
+        }
+    }
+}
+
+#[test]
+fn m10_in_five_bytes_a_number() {
+    let padded = in_five_bytes(&numbers(&m10()));
+    assert_eq!(padded.len(), 50);
+    assert_eq!(bound(&padded, &[]), Ok(15));
+    assert_eq!(write(&padded, 10), Ok(M10.to_vec()));
+    assert_eq!(write(&padded, 50), Ok(M10.to_vec()));
+    assert_eq!(write(&padded, 9), Err((10, 10)));
+    assert_eq!(read(&padded[..49]), Err((1, 49)));
+    assert_eq!(read(&[&padded[..], &[0]].concat()), Err((5, 50)));
+}
+
+/// In reading a place counts the bytes given, in writing those that would be written.
+#[test]
+fn m10_with_no_scratchpad() {
+    let problem = Problem { scratchpad: 0, ..m10() };
+    assert_eq!(read(&in_five_bytes(&numbers(&problem))), Err((3, 5)));
+    assert_eq!(read(&m10_with(SCRATCHPAD, &[0x80, 0x80, 0x00])), Err((3, 1)));
+    assert_eq!(read(&file_of(&problem)), Err((3, 1)));
+    assert_eq!(write_fields(&problem), Err((3, 1)));
+}
+
+#[test]
+fn an_edge_that_is_there_twice() {
+    let problem = Problem { vertices: [m10().vertices, m10().vertices].concat(), edges: vec![Edge { from: 0, to: 1 }; 2], ..m10() };
+    let file = [0x01, 0x08, 0x01, 0x08, 0x05, 0x02, 0x00, 0x0A, 0x00, 0x0A, 0x02, 0x00, 0x01, 0x00, 0x01, 0x00];
+    assert_eq!(file_of(&problem), file);
+    assert_eq!(read(&file), Err((4, 13)));
+    assert_eq!(write_fields(&problem), Err((4, 13)));
+    assert_eq!(read(&in_five_bytes(&numbers(&problem))), Err((4, 65)));
+    let edge_count = 10;
+    let padded_count = [&file[..edge_count], &spell_in(2, MOST_BYTES), &file[edge_count + 1..]].concat();
+    assert_eq!(read(&padded_count), Err((4, 17)));
+}
+
+#[test]
+fn p_q_and_r_in_five_bytes_a_number() {
+    let cases = [(p(), 190, &[0, 1, 1][..], 85), (q(), 130, &[0, 1], 48), (r(), 145, &[0, 1], 39), (r(), 145, &[0, 0], 65)];
+    for (problem, bytes, layout, cycles) in cases {
+        let padded = in_five_bytes(&numbers(&problem));
+        assert_eq!(padded.len(), bytes);
+        assert_eq!(bound(&padded, layout), Ok(cycles));
+        assert_eq!(write(&padded, bytes), Ok(file_of(&problem)));
+    }
+}
+
+#[test]
+fn the_longest_file_in_five_bytes_a_number() {
+    let numbers = numbers(&longest(&mut Random::seeded(6)));
+    let padded = in_five_bytes(&numbers);
+    assert_eq!(padded.len(), 7_230);
+    assert_eq!(read(&padded), Ok(128));
+    assert_eq!(write(&padded, 2_091), Ok(spelled(&numbers)));
+    assert_eq!(write(&padded, 2_090), Err((10, 2_091)));
+    assert_eq!(read(&padded[..7_229]), Err((1, 7_229)));
+    assert_eq!(read(&[padded, vec![0]].concat()), Err((5, 7_230)));
+}
