@@ -1,7 +1,9 @@
 -- The worked examples M1 to M10 of document 01, in its order; each comment has its words. Where it gives some of Bound's four numbers (bytes needed,
--- contested vertices, first loads, bound), or a run without its loads, the others stand here too. Then two of request 3/14, one for each total.
-use Prim.Native.Nat.{ℕ}
-use mathlib.Core.List.{List, [], _∷_}
+-- contested vertices, first loads, bound), or a run without its loads, the others stand here too. Then two of request 3/14, one for each total, and files with
+-- padded numbers, of request 6/14.
+use Prim.Native.Nat.{ℕ, _+_}
+use mathlib.Core.List.{List, [], _∷_, _++_}
+use lib.ListN.{take}
 use Rattle.examples.specs.Problems.{P, Q, R, single, oneOfTwo, metTwice}
 use Rattle.examples.specs.Claims.{Claim, sets, bounds, secondTotals, boundRefused, runs, runRefused, longestRun, reads, readRefused, prints, printsRefusal}
 
@@ -12,6 +14,18 @@ chain = 0 ∷ 1 ∷ 2 ∷ 3 ∷ 4 ∷ 5 ∷ 6 ∷ []
 -- M10's file.
 abbrev whole : List ℕ
 whole = 0x01 ∷ 0x08 ∷ 0x01 ∷ 0x08 ∷ 0x05 ∷ 0x01 ∷ 0x00 ∷ 0x0A ∷ 0x00 ∷ 0x00 ∷ []
+
+-- Numbers of one byte, each in five.
+abbrev inFive : List ℕ → List ℕ
+inFive [] = []
+inFive (v ∷ vs) = (0x80 + v) ∷ 0x80 ∷ 0x80 ∷ 0x80 ∷ 0x00 ∷ inFive vs
+
+-- A file with two vertices and the edge 0-1 twice, up to the number of edges, and from there on.
+abbrev twoVertices : List ℕ
+twoVertices = 0x01 ∷ 0x08 ∷ 0x01 ∷ 0x08 ∷ 0x05 ∷ 0x02 ∷ 0x00 ∷ 0x0A ∷ 0x00 ∷ 0x0A ∷ []
+
+abbrev edgeTwice : List ℕ
+edgeTwice = 0x00 ∷ 0x01 ∷ 0x00 ∷ 0x01 ∷ 0x00 ∷ []
 
 unfoldable pub marks : List Claim
 marks =
@@ -54,4 +68,17 @@ marks =
     -- 3/14: document 01's total, 15, is smaller than the second, 18, and so it is still needed.
     ∷ bounds metTwice (0 ∷ 1 ∷ []) 2 0 8 15
     ∷ secondTotals metTwice (0 ∷ 1 ∷ []) 18
+    -- 6/14: M10's file with every number in five bytes, or 08 as 88 00, holds the same problem. 88 80 80 80 10 is refused 2.
+    ∷ reads (inFive whole) single
+    ∷ prints (inFive whole) single [] 8 0 5 15 "need 8\ncharged 0\nfirst 5\nbound 15\n"
+    ∷ reads (0x01 ∷ 0x88 ∷ 0x00 ∷ 0x01 ∷ 0x08 ∷ 0x05 ∷ 0x01 ∷ 0x00 ∷ 0x0A ∷ 0x00 ∷ 0x00 ∷ []) single
+    ∷ readRefused (0x01 ∷ 0x88 ∷ 0x80 ∷ 0x80 ∷ 0x80 ∷ 0x10 ∷ []) 2 1
+    -- Places are positions of the bytes given: of M10 in five bytes a number a byte less is 1 at 49, scratchpad 0 is 3 at 5, and a byte after it 5 at 50.
+    ∷ readRefused (take 49 (inFive whole)) 1 49
+    ∷ readRefused (inFive (0x01 ∷ 0x00 ∷ [])) 3 5
+    ∷ readRefused (inFive whole ++ (0x00 ∷ [])) 5 50
+    -- Edge 0-1 twice is 4 at 13, at 65 if all is padded, and at 17 if only the number of edges is.
+    ∷ readRefused (twoVertices ++ (0x02 ∷ edgeTwice)) 4 13
+    ∷ readRefused (inFive (twoVertices ++ (0x02 ∷ edgeTwice))) 4 65
+    ∷ readRefused (twoVertices ++ (inFive (0x02 ∷ []) ++ edgeTwice)) 4 17
     ∷ []

@@ -16,7 +16,7 @@ fn high_fifth(left: usize, b: u64) -> bool
     false
 }
 
-// The number at a position, group by group: groups of seven bits, the lowest first.
+// The number at a position, group by group: groups of seven bits, the lowest first. A byte below 128 ends it, also a zero: numbers may be padded.
 fn read_groups(bytes: &[u8], at: usize) -> Number
     ensures { λ r. ⌜ r ≡ readNumber (now (bytes .entry)) at ⌝ }
 {
