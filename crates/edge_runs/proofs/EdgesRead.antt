@@ -1,5 +1,5 @@
 -- Edges are read: the steps of the two numbers of an edge between two others come to one turn of a run, however they are spelt.
-use Prim.Native.Nat.{ℕ, zero, suc, _+_, _*_, _-_, _≤_, _<_}
+use Prim.Native.Nat.{ℕ, suc, _+_, _*_, _-_, _≤_, _<_}
 use mathlib.Core.Path.{_≡_, refl, sym, ap, _∙_}
 use mathlib.Core.List.{List}
 use mathlib.Core.Bool.{true}
@@ -17,52 +17,15 @@ use Rattle.spelling.proofs.Prefix.{number-ends}
 use Rattle.fields.specs.Valid.{Valid, field}
 use Rattle.fields.proofs.Steps.{ranged-later}
 use Rattle.fields.proofs.OneField.{read-on}
-use Rattle.edge_runs.specs.Edges.{pastPairs, secondEdge, Opens, Follows, Readable, PairsRead, AtItem, ItemTaken, EdgesRead}
+use Rattle.edge_runs.specs.Edges.{secondEdge, Opens, Follows, Readable, PairsRead, AtItem, ItemTaken, EdgesRead}
+use Rattle.edge_runs.proofs.Items.{item-read, none-read, two-runs, one-taken}
 use Rattle.edge_runs.proofs.Edges.{Between, between, from-ranged, to-ranged, from-ascends, from-next, to-next, ordered, edge-room, opened}
 use Rattle.model.specs.Places as places
 use Rattle.model.specs.Rows as rows
 
--- Where an item starts, the start of the item before plays no part.
-pub start-free : (n : ℕ) (s : List ℕ) (at start start′ : ℕ) (c : Field) (l : List ℕ) → kind (c .row) ≡ firstKind → readFrom n s at start c l ≡ readFrom n s at start′ c l
-unfolding readFrom itemStart
-start-free zero s at start start′ c l e = refl
-start-free (suc n) s at start start′ c l e = simp e
-
 from-starts : kind rows.from ≡ firstKind
 unfolding kinds
 from-starts = refl
-
--- An item of two numbers is read by the steps of both, where others of its list follow.
-pub item-read : {s : List ℕ} {at : ℕ} {c : Field} {l m : List ℕ} {end : ℕ} → 0 < c .left → end ≤ length s → length m ≡ numberCount → kind (c .row) ≡ firstKind →
-    Valid (field (c .row) (c .place + 1 + 1) (c .left - 1)) →
-    ((n start : ℕ) → readFrom (suc (suc n)) s at start c l ≡ readFrom n s end at (field (c .row) (c .place + 1 + 1) (c .left - 1)) m) → PairsRead s at c l m 1 end
-item-read {s} {at} {c} {l} {m} {end} more inside long first valid two-read =
-    let place : c .place + places.edgeWidth * 1 ≡ c .place + 1 + 1 = omega arith in
-    record {
-      few = more;
-      inside = inside;
-      valid = rw place valid;
-      long = long;
-      same = λ n start.
-          let two : n + places.edgeWidth * 1 ≡ suc (suc n) = omega arith in
-          rw (two, place) (two-read n start ∙ start-free n s end at start (field (c .row) (c .place + 1 + 1) (c .left - 1)) m first);
-    }
-
--- A run, and another behind it.
-pub two-runs : {s : List ℕ} {at : ℕ} {c : Field} {l m w : List ℕ} {k pos j end : ℕ} → PairsRead s at c l m k pos → PairsRead s pos (pastPairs c k) m w j end →
-    PairsRead s at c l w (k + j) end
-two-runs {c = c} {k = k} {j = j} run more =
-    let place : c .place + places.edgeWidth * (k + j) ≡ c .place + places.edgeWidth * k + places.edgeWidth * j = omega arith in
-    let left : c .left - (k + j) ≡ c .left - k - j = omega arith in
-    record {
-      few = omega (arith, more .few, run .few);
-      inside = more .inside;
-      valid = rw (place, left) (more .valid);
-      long = more .long;
-      same = λ n start.
-          let count : n + places.edgeWidth * (k + j) ≡ n + places.edgeWidth * j + places.edgeWidth * k = omega arith in
-          rw (count, place, left) (run .same (n + places.edgeWidth * j) start ∙ more .same n start);
-    }
 
 -- What the tests of an edge found: its two numbers, spelt from a position on, and that it may stand between two others.
 pub record EdgeFound (s l : List ℕ) (pos q left : ℕ) : Type 0 where
@@ -139,9 +102,6 @@ pub record Running (s l : List ℕ) (at vertices first left : ℕ) (m : List ℕ
   pub here : vertices ≡ getD m places.vertexCount 0
   pub done : EdgesRead s at (field rows.from first left) l m k
 
-pub none-read : {s : List ℕ} {at : ℕ} {c : Field} {l : List ℕ} → Readable s at c l → PairsRead s at c l l 0 at
-none-read r = record { few = omega arith; inside = r .inside; valid = simp unary-clauses (r .valid); long = r .long; same = λ n start. simp unary-clauses }
-
 pub no-edge-read : {s : List ℕ} {at : ℕ} {c : Field} {l : List ℕ} → Readable s at c l → EdgesRead s at c l l 0
 no-edge-read r = simp unary-clauses (none-read r)
 
@@ -167,13 +127,6 @@ module _ {s l : List ℕ} {at vertices first left : ℕ} {m : List ℕ} {k : ℕ
         here = r .here ∙ sym (kept found places.vertexCount (omega (arith, r .late)));
         done = rw end (two-runs (r .done) (edge-read found (r .done .valid) (r .done .long)));
       }
-
--- Nothing is read, or an item that ends behind the first byte.
-pub none-taken : {s : List ℕ} {at : ℕ} {c : Field} {l : List ℕ} → ItemTaken s at c l l 0
-none-taken = record { left = λ e. refl; taken = λ h. let z : ⊥ = omega (arith, h) in elim z [ ] }
-
-pub one-taken : {s : List ℕ} {at : ℕ} {c : Field} {l m : List ℕ} {end : ℕ} → 0 < end → PairsRead s at c l m 1 end → ItemTaken s at c l m end
-one-taken far item = record { left = λ e. let z : ⊥ = omega (arith, far, e) in elim z [ ]; taken = λ h. item }
 
 -- The edge at a field where a run may start.
 module _ {s : List ℕ} {at : ℕ} {c : Field} {l : List ℕ} {vertices : ℕ} (r : AtItem s at c l) (o : Opens c vertices) where

@@ -18,7 +18,7 @@ use Rattle.fields.specs.Valid.{Valid, Placed, field}
 use Rattle.fields.proofs.Steps.{placed, ranged-later}
 use Rattle.fields.proofs.OneField.{read-on}
 use Rattle.edge_runs.specs.Edges.{ItemTaken}
-use Rattle.edge_runs.proofs.EdgesRead.{item-read, one-taken}
+use Rattle.edge_runs.proofs.Items.{item-read, one-taken}
 use Rattle.pair_runs.specs.Pairs.{Pair, functions, vertices, Item, pair, edge, AtPair}
 use Rattle.model.specs.Places as places
 use Rattle.model.specs.Rows as rows

@@ -11,7 +11,8 @@ use Rattle.model.specs.declared.Number.the-variants as number
 use Rattle.model.specs.Spelling.{readNumber}
 use Rattle.model.specs.File.{edgeSpan}
 use Rattle.edge_runs.specs.Edges.{Opens}
-use Rattle.edge_runs.proofs.EdgesRead.{none-taken, edge-fits, edge-taken}
+use Rattle.edge_runs.proofs.Items.{none-taken}
+use Rattle.edge_runs.proofs.EdgesRead.{edge-fits, edge-taken}
 use Rattle.model.specs.Places as places
 
 -- From a state back to one before it.

@@ -6,7 +6,7 @@ use borrow.Author.Needs.{needs}
 use borrow.Author.Tests.{not-false}
 use Rattle.fields.proofs.Steps.{placed}
 use Rattle.edge_runs.specs.Edges.{PairsRead}
-use Rattle.edge_runs.proofs.EdgesRead.{none-read, two-runs}
+use Rattle.edge_runs.proofs.Items.{none-read, two-runs}
 use Rattle.pair_runs.specs.Pairs.{Item}
 use Rattle.pair_runs.proofs.Pairs.{item-going}
 use Rattle.pair_runs.proofs.read_items.Statement.{statement}

@@ -9,7 +9,7 @@ use Rattle.model.specs.declared.Number.the-variants as number
 use Rattle.model.specs.Spelling.{readNumber}
 use Rattle.model.specs.File.{inRange}
 use Rattle.fields.specs.Valid.{Placed}
-use Rattle.edge_runs.proofs.EdgesRead.{none-taken}
+use Rattle.edge_runs.proofs.Items.{none-taken}
 use Rattle.pair_runs.proofs.Pairs.{behind, here-placed, behind-placed, Found, pair-taken}
 use Rattle.pair_runs.proofs.read_pair.Statement.{statement}
 use Rattle.pair_runs.proofs.read_pair.Tie as tie

@@ -3,7 +3,7 @@ use mathlib.Core.Path.{sym}
 use native.Mathlib.Omega.{arith}
 use borrow.Author.Needs.{needs}
 use Rattle.fields.proofs.Steps.{placed}
-use Rattle.edge_runs.proofs.EdgesRead.{two-runs}
+use Rattle.edge_runs.proofs.Items.{two-runs}
 use Rattle.pair_runs.proofs.read_run.Statement.{statement}
 use Rattle.pair_runs.proofs.read_run.Tie as tie
 
