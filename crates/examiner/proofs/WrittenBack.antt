@@ -1,5 +1,4 @@
--- What `examiner_write` makes of a file that is read as p: the shortest file of p. Files that are read alike are written back alike, and what was written back is
--- written back as it is.
+-- What `examiner_write` makes of a file that is read as p: the shortest file of p. And what was written back is written back as it is.
 use Prim.Native.Nat.{ℕ, _≤_}
 use mathlib.Core.Path.{_≡_, sym, ap, _∙_}
 use mathlib.Core.List.{List, _++_}
@@ -13,13 +12,10 @@ use Rattle.outcomes.specs.Outcomes.{onRead}
 use Rattle.roundtrip.specs.Files.{shortFile}
 use Rattle.roundtrip.proofs.Trip.{Rewritten, read-then-write}
 use Rattle.examiner.specs.Exports.{writeOut}
+use Rattle.examiner.proofs.Alike.{back-alike}
 
--- Nothing of a file counts but what Read says of it.
 by-answer : (s : List ℕ) (a : ReadAnswer) → readFile s ≡ a → (out : List ℕ) → writeOut s out ≡ onRead a (λ p. writtenBuffer p out) (λ f. out)
 by-answer s a is out = ap (λ (x : ReadAnswer). onRead x (λ p. writtenBuffer p out) (λ f. out)) is
-
-pub back-alike : (s t : List ℕ) → readFile s ≡ readFile t → (out : List ℕ) → writeOut s out ≡ writeOut t out
-back-alike s t alike out = by-answer s (readFile t) alike out
 
 module _ (s : List ℕ) (byte : Bytes s) (p : Problem) (is-read : readFile s ≡ Accepted p) (out : List ℕ)
     (room : length (shortFile p) ≤ length out) where
