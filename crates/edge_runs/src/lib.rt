@@ -116,7 +116,7 @@ pub fn read_edge(bytes: &[u8], numbers: &mut Numbers, at: usize, field: Field) -
     next
 }
 
-// The same of numbers that are there already, a byte a number: how many edges from the field on are sure to pass.
+// As `read_edges`, of numbers that are there already: how many edges from the field on are sure to pass.
 pub fn check_edges(numbers: &Numbers, field: Field) -> usize
     requires { ⌜ Valid field ⌝ }
     ensures { λ r. ⌜ EdgesChecked field (now (numbers .entry)) r ⌝ }

@@ -18,6 +18,10 @@ use Rattle.examiner.specs.Exports.{readTold, writeTold, writeOut, Interf
 pub padding-alone : (s : List ℕ) → Bytes s → (p : Problem) → readFile s ≡ Accepted p → (t : List ℕ) → FileOf p t → readFile s ≡ readFile t
 padding-alone s byte p is-read t file = is-read ∙ sym (file-read s byte p is-read t file)
 
+-- What is written back is Read's answer's alone.
+pub back-by : (s : List ℕ) (a : ReadAnswer) → readFile s ≡ a → (out : List ℕ) → writeOut s out ≡ onRead a (λ p. writtenBuffer p out) (λ f. out)
+back-by s a is out = ap (λ (x : ReadAnswer). onRead x (λ p. writtenBuffer p out) (λ f. out)) is
+
 module _ (s t : List ℕ) (alike : readFile s ≡ readFile t) where
   pub read-alike : readTold s ≡ readTold t
   read-alike = ap (λ (a : ReadAnswer). onRead a (λ p. Results (counts p)) refusalOutcome) alike
@@ -26,7 +30,7 @@ module _ (s t : List ℕ) (alike : readFile s ≡ readFile t) where
   write-alike room = ap (λ (a : ReadAnswer). onRead a (λ p. writeSays p room) refusalOutcome) alike
 
   pub back-alike : (out : List ℕ) → writeOut s out ≡ writeOut t out
-  back-alike out = ap (λ (a : ReadAnswer). onRead a (λ p. writtenBuffer p out) (λ f. out)) alike
+  back-alike out = back-by s (readFile t) alike out
 
   pub interference-alike : (words after : List ℕ) (o : Outcome) → InterferenceTold s words after o → InterferenceTold t words after o
   interference-alike words after o =

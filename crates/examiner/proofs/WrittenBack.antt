@@ -4,18 +4,13 @@ use mathlib.Core.Path.{_≡_, sym, ap, _∙_}
 use mathlib.Core.List.{List, _++_}
 use lib.ListN.{length, take, drop}
 use Rattle.model.specs.declared.Problem.{Problem}
-use Rattle.model.specs.declared.ReadAnswer.{ReadAnswer}
 use Rattle.model.specs.declared.ReadAnswer.the-variants.{Accepted}
 use Rattle.model.specs.Spelling.{Bytes}
-use Rattle.model.specs.Operations.{readFile, writtenBuffer}
-use Rattle.outcomes.specs.Outcomes.{onRead}
+use Rattle.model.specs.Operations.{readFile}
 use Rattle.roundtrip.specs.Files.{shortFile}
 use Rattle.roundtrip.proofs.Trip.{Rewritten, read-then-write}
 use Rattle.examiner.specs.Exports.{writeOut}
-use Rattle.examiner.proofs.Alike.{back-alike}
-
-by-answer : (s : List ℕ) (a : ReadAnswer) → readFile s ≡ a → (out : List ℕ) → writeOut s out ≡ onRead a (λ p. writtenBuffer p out) (λ f. out)
-by-answer s a is out = ap (λ (x : ReadAnswer). onRead x (λ p. writtenBuffer p out) (λ f. out)) is
+use Rattle.examiner.proofs.Alike.{back-by, back-alike}
 
 module _ (s : List ℕ) (byte : Bytes s) (p : Problem) (is-read : readFile s ≡ Accepted p) (out : List ℕ)
     (room : length (shortFile p) ≤ length out) where
@@ -23,11 +18,11 @@ module _ (s : List ℕ) (byte : Bytes s) (p : Problem) (is-read : readFile s ≡
   rewritten = read-then-write s byte p is-read out room
 
   pub written-back : writeOut s out ≡ shortFile p ++ drop (length (shortFile p)) out
-  written-back = by-answer s (Accepted p) is-read out ∙ rewritten .buffer
+  written-back = back-by s (Accepted p) is-read out ∙ rewritten .buffer
 
   -- Writing back the file at the front of `out` is writing back s.
   pub back-twice : (again : List ℕ) → writeOut (take (length (shortFile p)) (writeOut s out)) again ≡ writeOut s again
   back-twice again =
       back-alike (take (length (shortFile p)) (writeOut s out)) s
-      (ap (λ (b : List ℕ). readFile (take (length (shortFile p)) b)) (by-answer s (Accepted p) is-read out) ∙ rewritten .again ∙ sym is-read)
+      (ap (λ (b : List ℕ). readFile (take (length (shortFile p)) b)) (back-by s (Accepted p) is-read out) ∙ rewritten .again ∙ sym is-read)
       again

@@ -10,7 +10,7 @@ use Rattle.model.specs.declared.Number.the-variants as number
 use Rattle.model.specs.declared.Field.{Field}
 use Rattle.model.specs.declared.FieldsAnswer.{FieldsAnswer}
 use Rattle.model.specs.declared.FieldsAnswer.the-variants.{Done, Refused}
-use Rattle.model.specs.Spelling.{readNumber, numberSize, numberBytes}
+use Rattle.model.specs.Spelling.{mostGroups, readNumber, numberSize, numberBytes}
 use Rattle.model.specs.Numbers.{table}
 use Rattle.model.specs.Table.{least, greatest, base, kind, jump, countOver, countKind, firstKind, lastKind}
 use Rattle.model.specs.Places as places
@@ -22,7 +22,7 @@ numberCount = places.end
 
 -- Read looks at no byte from here on: a number takes at most five bytes.
 abbrev pub readLength : ℕ
-readLength = 5 * numberCount + 1
+readLength = mostGroups * numberCount + 1
 
 -- The file's first field: the edition.
 abbrev pub firstField : Field

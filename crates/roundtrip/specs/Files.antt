@@ -7,7 +7,7 @@ use mathlib.Core.Bool.{true, false, cond}
 use lib.ListN.{getD}
 use Rattle.model.specs.declared.Field.{Field}
 use Rattle.model.specs.declared.Problem.{Problem}
-use Rattle.model.specs.Spelling.{numberSize, groups}
+use Rattle.model.specs.Spelling.{mostGroups, numberSize, groups}
 use Rattle.model.specs.Numbers.{numbersOf}
 use Rattle.model.specs.File.{numberCount, firstField, atEnd, nextField, fileBytes}
 
@@ -15,7 +15,7 @@ use Rattle.model.specs.File.{numberCount, firstField, atEnd, nextField, fileByt
 pub data Padded (l : List ℕ) : ℕ → Field → List ℕ → Type 0 where
   none : {c : Field} → Padded l zero c []
   over : {n : ℕ} {c : Field} → atEnd c ≡ true → Padded l (suc n) c []
-  on : {n : ℕ} {c : Field} {rest : List ℕ} (k : ℕ) → atEnd c ≡ false → numberSize (getD l (c .place) 0) ≤ k → k ≤ 5 →
+  on : {n : ℕ} {c : Field} {rest : List ℕ} (k : ℕ) → atEnd c ≡ false → numberSize (getD l (c .place) 0) ≤ k → k ≤ mostGroups →
       Padded l n (nextField c (getD l (c .place) 0)) rest → Padded l (suc n) c (groups k (getD l (c .place) 0) ++ rest)
 
 -- The bytes s are a file of the problem, padded or not.
@@ -29,7 +29,7 @@ shortFile p = fileBytes (numbersOf p)
 -- The one of a linker that reserves five bytes a number.
 unfoldable pub wideFrom : ℕ → Field → List ℕ → List ℕ
 wideFrom zero c l = []
-wideFrom (suc n) c l = cond (atEnd c) [] (groups 5 (getD l (c .place) 0) ++ wideFrom n (nextField c (getD l (c .place) 0)) l)
+wideFrom (suc n) c l = cond (atEnd c) [] (groups mostGroups (getD l (c .place) 0) ++ wideFrom n (nextField c (getD l (c .place) 0)) l)
 
 abbrev pub wideFile : Problem → List ℕ
 wideFile p = wideFrom numberCount firstField (numbersOf p)

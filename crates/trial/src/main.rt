@@ -10,10 +10,7 @@ fn main() {
     files::refused_by_graph();
     files::m10();
     fields::m10();
-    round_trip::run(b"P", samples::p(14));
-    round_trip::run(b"Q", samples::q());
-    round_trip::run(b"R", samples::r(4));
-    padded::run(b"P padded", samples::p(14));
-    padded::run(b"Q padded", samples::q());
-    padded::run(b"R padded", samples::r(4));
+    round_trip::run(b"P", b"P padded", samples::p(14));
+    round_trip::run(b"Q", b"Q padded", samples::q());
+    round_trip::run(b"R", b"R padded", samples::r(4));
 }

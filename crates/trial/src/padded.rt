@@ -1,9 +1,6 @@
 // Files with every number padded to five bytes, and written back short.
-use crate::round_trip;
 use crate::round_trip::front;
 use crate::show;
-use model::Problem;
-use model::WriteAnswer;
 
 // How many bytes each number takes.
 const FIVE: usize = 5;
@@ -47,15 +44,4 @@ pub fn rewrite(name: &[u8], file: &[u8], room: &mut [u8]) {
     }
     let same = check::same(file, front(room, answer[0] as usize));
     show::rewritten(name, length as u64, answer[0], same);
-}
-
-// The same of a problem's file.
-pub fn run(name: &[u8], problem: Problem) {
-    let mut file = io::buffer();
-    let written = file::write(problem, &mut file);
-    let mut room = io::buffer();
-    match written {
-        WriteAnswer::Refused(refusal) => round_trip::refused(name, refusal),
-        WriteAnswer::Written(count) => rewrite(name, front(&file, count), &mut room),
-    }
 }

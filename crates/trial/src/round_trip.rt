@@ -1,4 +1,5 @@
 // A problem is written and read back, and the two are compared.
+use crate::padded;
 use crate::show;
 use model::Numbers;
 use model::Problem;
@@ -32,7 +33,7 @@ pub fn front(buf: &[u8], count: usize) -> &[u8] {
     }
 }
 
-pub fn refused(name: &[u8], refusal: Refusal) {
+fn refused(name: &[u8], refusal: Refusal) {
     show::refusal(name, model::number_of(refusal), model::place_of(refusal));
 }
 
@@ -50,11 +51,17 @@ fn read_back(name: &[u8], problem: Problem, file: &[u8]) {
     }
 }
 
-pub fn run(name: &[u8], problem: Problem) {
+// A problem's file, read back and written back from its padding.
+pub fn run(name: &[u8], padded_name: &[u8], problem: Problem) {
     let mut out = io::buffer();
     let written = file::write(problem, &mut out);
     match written {
         WriteAnswer::Refused(refusal) => refused(name, refusal),
-        WriteAnswer::Written(count) => read_back(name, problem, front(&out, count)),
+        WriteAnswer::Written(count) => {
+            let file = front(&out, count);
+            read_back(name, problem, file);
+            let mut room = io::buffer();
+            padded::rewrite(padded_name, file, &mut room);
+        }
     }
 }
