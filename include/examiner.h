@@ -76,6 +76,9 @@ extern "C" {
 #define EXAMINER_MOST_EDGES 512
 #define EXAMINER_MOST_LOOPS 32
 
+/* The greatest bound of a loop: the most visits to its header in one stay. */
+#define EXAMINER_MOST_VISITS 4096
+
 /* The places of `answer`, and of `held` (regions are 0 to 31). */
 #define EXAMINER_ANSWERS 4
 #define EXAMINER_REGIONS 32

@@ -7,6 +7,10 @@ use crate::problem::*;
 /// The most bytes that a number may have.
 pub const MOST_BYTES: usize = 5;
 
+/// The longest file that is written, which has every number at its greatest. A size or a cost takes four bytes, a loop's bound and the
+/// counts of vertices and edges two, and any other number one.
+pub const LONGEST: usize = 1 + 4 + (1 + 8 * MOST_FUNCTIONS) + (2 + 5 * MOST_VERTICES) + (2 + 2 * MOST_EDGES) + (1 + 4 * MOST_LOOPS);
+
 /// A place in a file that is being read.
 struct Cursor<'a> {
     file: &'a [u8],

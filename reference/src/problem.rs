@@ -13,7 +13,7 @@ pub const MOST_LOOPS: usize = 32;
 /// The greatest scratchpad size, function size, load cost and own cost.
 pub const MOST_SIZE: u32 = 16_777_215;
 /// The greatest bound of a loop.
-pub const MOST_VISITS: u32 = 65_535;
+pub const MOST_VISITS: u32 = 4_096;
 /// Regions are 0 to 31.
 pub const REGIONS: usize = 32;
 /// The greatest bound that the operation Bound gives.

@@ -2,6 +2,7 @@
 
 use reference::drawing::Numbers;
 use reference::examples::{at_limits, chain, d1, d2, d3, d4, d5, d6, D4};
+use reference::file::LONGEST;
 use reference::inline::{by_splicing, judge, recursively, true_counts};
 use reference::stack::{lawful_runs, number, simulate};
 use reference::{bound, inline, read, run, Drawing, DrawnFunction, DrawnVertex, Function, Loop, Problem, Refusal};
@@ -16,7 +17,7 @@ fn file_of(drawing: &Drawing) -> Result<Vec<u8>, Refusal> {
 }
 
 fn file_of_numbers(numbers: &Numbers) -> Result<Vec<u8>, Refusal> {
-    let mut out = vec![0; 2_091];
+    let mut out = vec![0; LONGEST];
     let written = inline(numbers, &mut out)?;
     out.truncate(written);
     Ok(out)

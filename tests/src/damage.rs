@@ -31,7 +31,7 @@ pub fn file_of(problem: &Problem) -> Vec<u8> {
 }
 
 /// Values at and past the ends of the ranges of the field table.
-pub const ODD_VALUES: [u32; 24] = [
+pub const ODD_VALUES: [u32; 27] = [
     0,
     1,
     2,
@@ -49,8 +49,11 @@ pub const ODD_VALUES: [u32; 24] = [
     511,
     512,
     513,
+    MOST_VISITS - 1,
     MOST_VISITS,
     MOST_VISITS + 1,
+    65_535,
+    65_536,
     MOST_SIZE,
     MOST_SIZE + 1,
     1 << 28,

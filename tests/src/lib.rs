@@ -1,5 +1,7 @@
-//! What the tests and the benchmark share: seeded problems, files, drawings, layouts and walks, lawful and damaged, and what they are like.
+//! What the tests and the benchmark share: seeded problems, files, drawings, layouts and walks, lawful and damaged, what they are like, and
+//! operations asked of both implementations.
 
+pub mod asked;
 pub mod damage;
 pub mod drawings;
 pub mod evictions;

@@ -254,12 +254,12 @@ pub fn with_total(total: u64, load: u32) -> Problem {
 }
 
 /// The problem with more vertices behind its last one, whose own costs are exactly `more` on a walk that makes the most of them: nests of
-/// three, two and one loops of the most visits, and a vertex outside all loops, each as often as it goes into the rest. They are of the
-/// function of that last vertex, so they are neither contested nor early, and either total is greater by `more`.
+/// four, three, two and one loops of the most visits, and a vertex outside all loops, each as often as it goes into the rest. They are of
+/// the function of that last vertex, so they are neither contested nor early, and either total is greater by `more`.
 pub fn followed_by(mut problem: Problem, more: u64) -> Problem {
     let function = problem.vertices.last().map_or(0, |vertex| vertex.function);
     let mut rest = more;
-    for depth in (0..=3u32).rev() {
+    for depth in (0..=4u32).rev() {
         let visits = u64::from(MOST_VISITS).pow(depth);
         let cost = (rest / visits).min(u64::from(MOST_SIZE));
         rest -= cost * visits;

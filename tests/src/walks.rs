@@ -168,32 +168,62 @@ fn prefer(choices: &mut Vec<u32>, preferred: impl Fn(u32) -> bool) {
     }
 }
 
-/// A lawful walk of exactly `length` entries, if random steps find one. Towards its end it keeps to vertices from which the last one is
-/// exactly so many steps away.
-pub fn of_length(random: &mut Random, problem: &Problem, length: usize) -> Option<Vec<u32>> {
-    let aim = 400.min(length);
-    // for each number of steps, the vertices from which so many lead to the last one, bounds aside
-    let mut exact = vec![vec![false; problem.vertices.len()]; aim];
-    exact[0][problem.vertices.len() - 1] = true;
-    for steps in 1..aim {
+/// For each number of steps below `most`, the vertices from which so many lead to the first visit to `goal`. Bounds play no part, and no vertex is
+/// followed by itself.
+fn steps_to(problem: &Problem, goal: u32, most: usize) -> Vec<Vec<bool>> {
+    let mut exact = vec![vec![false; problem.vertices.len()]; most];
+    exact[0][goal as usize] = true;
+    for steps in 1..most {
         for edge in &problem.edges {
-            if exact[steps - 1][edge.to as usize] {
+            if exact[steps - 1][edge.to as usize] && edge.from != goal && edge.from != edge.to {
                 exact[steps][edge.from as usize] = true;
             }
         }
     }
+    exact
+}
+
+/// Laps of an outermost loop, from its header back to it, so long that its visits do for a walk of some length.
+struct Laps {
+    length: usize,
+    /// For each loop, its vertices by their steps to the header.
+    to_header: Vec<Vec<Vec<bool>>>,
+    /// The steps that are left of the present lap.
+    left: usize,
+}
+
+impl Laps {
+    fn new(problem: &Problem, length: usize, most: usize) -> Laps {
+        Laps { length, to_header: problem.loops.iter().map(|l| steps_to(problem, l.header, most)).collect(), left: 0 }
+    }
+
+    /// Drops the choices with which the present lap is too short or too long, if some are not.
+    fn keep(&mut self, random: &mut Random, walker: &Walker, choices: &mut Vec<u32>) {
+        let Some(outermost) = walker.problem.loops.iter().position(|l| l.holds(walker.at())) else { return };
+        let (l, to_header) = (walker.problem.loops[outermost], &self.to_header[outermost]);
+        if walker.at() == l.header {
+            let least = self.length / l.bound as usize + 1;
+            self.left = random.count(least..=least + 50).min(to_header.len());
+        }
+        self.left = self.left.saturating_sub(1);
+        prefer(choices, |v| to_header[self.left][v as usize]);
+    }
+}
+
+/// A lawful walk of exactly `length` entries, if random steps find one. Towards its end it keeps to vertices from which the last one is
+/// exactly so many steps away.
+pub fn of_length(random: &mut Random, problem: &Problem, length: usize) -> Option<Vec<u32>> {
+    let aim = 400.min(length);
+    let to_last = steps_to(problem, problem.last_vertex(), aim);
+    let mut laps = Laps::new(problem, length, aim);
     'tries: for _ in 0..5 {
         let mut walker = Walker::new(problem);
         while walker.walk.len() < length {
             let steps = length - walker.walk.len() - 1;
             let mut choices = walker.choices(usize::MAX);
-            choices.retain(|&v| exact[steps.min(aim - 1)][v as usize]);
+            choices.retain(|&v| to_last[steps.min(aim - 1)][v as usize]);
             if steps >= aim {
-                // the outermost loop is left, or its header visited, only where nothing else is possible
-                if let Some(outermost) = problem.loops.iter().find(|l| l.holds(walker.at())) {
-                    prefer(&mut choices, |v| outermost.holds(v));
-                    prefer(&mut choices, |v| v != outermost.header);
-                }
+                laps.keep(random, &walker, &mut choices);
             }
             if choices.is_empty() {
                 continue 'tries;

@@ -8,6 +8,8 @@
 
 #[path = "compare/evictions.rs"]
 mod evictions;
+#[path = "compare/loop_bounds.rs"]
+mod loop_bounds;
 #[path = "compare/padding.rs"]
 mod padding;
 
@@ -26,6 +28,7 @@ use examiner_tests::totals::{self, Priced};
 use examiner_tests::{effort, layouts, walks};
 use reference::drawing::{graph_of, Numbers, GRAPH};
 use reference::examples::{at_limits, chain, d1, d2, d3, d4, d5, d6, p, q, r, s, t, u, v, w, D4, M10};
+use reference::file::{spell, LONGEST};
 use reference::layout::{check, filled};
 use reference::longest::by_states;
 use reference::problem::*;
@@ -243,7 +246,7 @@ impl Comparison {
         if self.random.percent(70) {
             drawings::fill_spare_places(&mut self.random, &mut numbers);
         }
-        let needed = reference::inline(&numbers, &mut [0; 2_091]).unwrap_or(40);
+        let needed = reference::inline(&numbers, &mut [0; LONGEST]).unwrap_or(40);
         let length = match self.random.count(0..=9) {
             0 => self.random.count(0..=needed - 1),
             1 => needed,
@@ -788,15 +791,15 @@ fn long_files(c: &mut Comparison) {
     for _ in 0..5 {
         let problem = longest(&mut c.random);
         let file = file_of(&problem);
-        assert_eq!(file.len(), 2_091);
+        assert_eq!(file.len(), LONGEST);
         c.problem(&problem);
         let padded = in_five_bytes(&numbers(&problem));
         assert_eq!(padded.len(), 7_230);
         c.file(&padded);
         c.file(&[&padded[..], &[0]].concat());
-        let mut last_bound = file[..2_088].to_vec();
-        last_bound.extend([0xFF, 0xFF, 0xFF, 0xFF, 0x10]);
-        assert_eq!(reference::read(&last_bound), Err(Refusal { number: 2, place: 2_088 }));
+        let place = LONGEST - spell(MOST_VISITS).len();
+        let last_bound = [&file[..place], &[0xFF, 0xFF, 0xFF, 0xFF, 0x10]].concat();
+        assert_eq!(reference::read(&last_bound), Err(Refusal { number: 2, place: place as u64 }));
         c.file(&last_bound);
         for more in [1, 2, 5, 10_000, 100_000] {
             let longer = [file.clone(), c.random.bytes(more)].concat();
@@ -882,7 +885,7 @@ fn every_entry_of_some_walks(c: &mut Comparison) {
 
 /// Walks of exactly 1,000,000 entries, of one more, and broken near their ends.
 fn long_walks(c: &mut Comparison) {
-    // a loop of the greatest bound around a long chain, with a shorter loop and a short cut in it
+    // a loop of the greatest bound around a long chain, with a shorter loop and a short cut in it: walks of up to 1,400,834 entries
     let mut edges: Vec<Edge> = (0..31).map(|v| Edge { from: v, to: v + 1 }).collect();
     edges.extend([(9, 2), (30, 1), (3, 5)].map(|(from, to)| Edge { from, to }));
     edges.sort_unstable();
@@ -891,7 +894,7 @@ fn long_walks(c: &mut Comparison) {
         functions: vec![Function { size: 3, load: MOST_SIZE }, Function { size: 4, load: 1 }, Function { size: 5, load: 9 }],
         vertices: (0..32).map(|v| Vertex { function: v * v % 7 % 3, cost: MOST_SIZE }).collect(),
         edges,
-        loops: vec![Loop { header: 1, last: 30, bound: MOST_VISITS }, Loop { header: 2, last: 9, bound: 20 }],
+        loops: vec![Loop { header: 1, last: 30, bound: MOST_VISITS }, Loop { header: 2, last: 9, bound: 40 }],
     };
     let file = file_of(&problem);
     let walk = walks::of_length(&mut c.random, &problem, MOST_ENTRIES).expect("there are such walks");
@@ -919,27 +922,6 @@ fn long_walks(c: &mut Comparison) {
     c.layout_and_walk(&file, &[0, 1, 2, 3], &longer);
     c.layout_and_walk(&file, &[0, 32, 2], &longer);
     c.layout_and_walk(&file[1..], &shared, &longer);
-
-    // one visit more than any bound allows, in one stay
-    let mut longest_stay = r();
-    longest_stay.loops[0].bound = MOST_VISITS;
-    let file = file_of(&longest_stay);
-    let visits = |times: usize| [&[0], &[1, 2].repeat(times - 1)[..], &[1, 3]].concat();
-    let most = MOST_VISITS as usize;
-    assert!(reference::run(&file, &[0, 0], &visits(most)).is_ok());
-    assert_eq!(reference::run(&file, &[0, 0], &visits(most + 1)), Err(Refusal { number: 16, place: 1 + 2 * u64::from(MOST_VISITS) }));
-    c.layout_and_walk(&file, &[0, 0], &visits(most));
-    c.layout_and_walk(&file, &[0, 0], &visits(most + 1));
-    // long stays in the largest problems
-    for _ in 0..20 * effort() {
-        let plan = Plan { bounds: vec![1, 100, MOST_VISITS], ..Plan::largest(&mut c.random) };
-        let problem = lawful(&mut c.random, &plan);
-        let layout = layouts::lawful(&mut c.random, 32);
-        let walk = walks::wandering(&mut c.random, &problem, 50_000, 60_000);
-        c.layout_and_walk(&file_of(&problem), &layout, &walk);
-        let walk = walks::roaming(&mut c.random, &problem, 100_000);
-        c.layout_and_walk(&file_of(&problem), &layout, &walk);
-    }
 }
 
 fn small_drawings(c: &mut Comparison) {
@@ -975,7 +957,7 @@ fn damaged_drawings(c: &mut Comparison) {
         drawings::fill_spare_places(&mut c.random, &mut numbers);
         for _ in 0..3 {
             drawings::damage_numbers(&mut c.random, &mut numbers);
-            c.inline(&numbers, 2_091);
+            c.inline(&numbers, LONGEST);
         }
     }
     let mut numbers = d1().to_numbers();
@@ -990,7 +972,7 @@ fn damaged_drawings(c: &mut Comparison) {
 /// The worked drawings, each count at its limit and one past it, and each number of a drawing at the ends of its range.
 fn limits_of_drawings(c: &mut Comparison) {
     for drawing in [d1(), d2(), d3(), d4(), d5(), d6()] {
-        let bytes = reference::inline(&drawing.to_numbers(), &mut [0; 2_091]).expect("lawful");
+        let bytes = reference::inline(&drawing.to_numbers(), &mut [0; LONGEST]).expect("lawful");
         for length in 0..=bytes + 2 {
             c.inline(&drawing.to_numbers(), length);
         }
@@ -999,14 +981,14 @@ fn limits_of_drawings(c: &mut Comparison) {
 
     for (name, drawing, counts) in at_limits() {
         let [vertices, edges, loops] = counts;
-        let file = c.inline(&drawing.to_numbers(), 2_091);
+        let file = c.inline(&drawing.to_numbers(), LONGEST);
         assert_eq!(file.is_some(), vertices <= 128 && edges <= 512 && loops <= 32);
         c.saw(name, true);
     }
     let mut refused = |functions: Vec<DrawnFunction>, what: &'static str, number: u8| {
         let numbers = Drawing { scratchpad: 99, functions }.to_numbers();
         assert_eq!(reference::inline::judge(&numbers).err().map_or(0, |refusal| refusal.number), number, "{what}");
-        c.inline(&numbers, 2_091);
+        c.inline(&numbers, LONGEST);
         c.saw(what, true);
     };
     refused(vec![chain(&[]); 32], "32 functions drawn", 0);
@@ -1084,7 +1066,7 @@ fn empty_slices(c: &mut Comparison) {
 fn main() {
     let mut comparison = Comparison::new();
     type Group = fn(&mut Comparison);
-    // the quick ones first, of files and of drawings; then the two totals, evictions, and padded files
+    // the quick ones first, of files and of drawings; then the two totals, evictions, padded files, and bounds of loops
     let groups: &[(&str, Group)] = &[
         ("empty slices", empty_slices),
         ("random small graphs", any_small_graph),
@@ -1110,6 +1092,8 @@ fn main() {
         ("readings of evictions", evictions::readings_of_evictions),
         ("padded files", padding::padded_files),
         ("spoilt padded files", padding::spoilt_padded_files),
+        ("loop bounds", loop_bounds::loop_bounds),
+        ("long stays", loop_bounds::long_stays),
     ];
     for (index, (name, group)) in groups.iter().enumerate() {
         let started = Instant::now();
@@ -1144,9 +1128,8 @@ fn main() {
         assert!(*times > 0, "there was never {what}");
     }
     let refused_drawings = DRAWING_REFUSED.map(|(_, what)| (what, LEAST_REFUSED));
-    for (what, least) in
-        LEAST.into_iter().chain(refused_drawings).chain(least_of_totals()).chain(evictions::least()).chain(padding::least())
-    {
+    let least = LEAST.into_iter().chain(refused_drawings).chain(least_of_totals());
+    for (what, least) in least.chain(evictions::least()).chain(padding::least()).chain(loop_bounds::LEAST) {
         assert!(comparison.seen[what] >= least, "there was too seldom {what}");
     }
     println!("\n{} calls agree; every refusal from 1 to 21 was met", comparison.calls.values().sum::<usize>());

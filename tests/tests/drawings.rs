@@ -3,6 +3,7 @@
 use examiner::{Drawing, DrawnFunction, DrawnVertex, Edge, Fields, Function, Loop, Refusal, RefusalKind, Vertex};
 use examiner_tests::drawings::walk_of;
 use reference::examples::D4;
+use reference::file::LONGEST;
 use reference::stack::lawful_runs;
 
 /// The load costs of functions 0 to 2.
@@ -46,7 +47,7 @@ fn drawing(graphs: Vec<DrawnFunction>) -> Drawing {
 
 /// The file of a drawing's one problem.
 fn inlined(drawing: &Drawing) -> Result<Vec<u8>, Refusal> {
-    let mut out = vec![0; 2_091];
+    let mut out = vec![0; LONGEST];
     let written = examiner::inline(drawing, &mut out)?;
     out.truncate(written);
     Ok(out)
@@ -58,7 +59,7 @@ fn written(functions: usize, vertices: &str, edge_list: &str, loop_list: &[(u32,
     let vertices: Vec<Vertex> = vertices.split_whitespace().map(|text| vertex(text.split_once(':').expect("a cost"))).collect();
     let functions: Vec<Function> = LOADS[..functions].iter().map(|&load| Function { size: 1, load }).collect();
     let fields = Fields::new(functions.len() as u32, &functions, &vertices, &edges(edge_list), &loops(loop_list));
-    let mut out = vec![0; 2_091];
+    let mut out = vec![0; LONGEST];
     let bytes = examiner::write_fields(&fields.expect("there are places for all"), &mut out).expect("lawful");
     out.truncate(bytes);
     out

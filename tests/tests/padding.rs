@@ -1,62 +1,14 @@
 //! Padded numbers: the readings that were settled, asked of the library and of the independent implementation, by its plain methods and by its
 //! quick ones.
 
+use examiner_tests::asked::{bound, read, write, write_fields};
 use examiner_tests::damage::{file_of, numbers, spelled};
 use examiner_tests::padding::in_five_bytes;
 use examiner_tests::problems::longest;
 use examiner_tests::random::Random;
 use reference::examples::{p, q, r, M10};
-use reference::fast;
 use reference::file::{spell, spell_in, MOST_BYTES};
-use reference::problem::{Edge, Problem, Refusal, MOST_SIZE};
-
-/// What an operation gives, or the number and the place of the refusal.
-type Said<T> = Result<T, (u32, u64)>;
-
-fn by_library<T>(result: Result<T, examiner::Refusal>) -> Said<T> {
-    result.map_err(|refusal| (refusal.number.number(), refusal.place))
-}
-
-fn by_reference<T>(result: Result<T, Refusal>) -> Said<T> {
-    result.map_err(|refusal| (u32::from(refusal.number), refusal.place))
-}
-
-/// Read: the number of vertices.
-fn read(file: &[u8]) -> Said<usize> {
-    let said = by_library(examiner::read(file)).map(|counts| counts.vertices);
-    assert_eq!(by_reference(reference::read(file)).map(|problem| problem.vertices.len()), said, "{file:02X?}");
-    assert_eq!(by_reference(fast::read(file)).map(|flat| flat.counts()[1]), said, "{file:02X?}");
-    said
-}
-
-/// Bound: the bound.
-fn bound(file: &[u8], layout: &[u8]) -> Said<u64> {
-    let said = by_library(examiner::bound(file, layout)).map(|bound| bound.bound);
-    assert_eq!(by_reference(reference::bound(file, layout)).map(|bound| bound.bound), said, "{file:02X?}");
-    assert_eq!(by_reference(fast::bound(file, layout)).map(|bound| bound.bound), said, "{file:02X?}");
-    said
-}
-
-/// Write into so many bytes: those written.
-fn write(file: &[u8], length: usize) -> Said<Vec<u8>> {
-    let mut out = vec![0xA5; length];
-    let mut out_of_reference = out.clone();
-    let said = by_library(examiner::write(file, &mut out));
-    assert_eq!(by_reference(reference::write(file, &mut out_of_reference)), said, "{file:02X?}");
-    assert_eq!(out_of_reference, out, "{file:02X?}");
-    said.map(|bytes| out[..bytes].to_vec())
-}
-
-/// Write on the record of a problem: the number of bytes.
-fn write_fields(problem: &Problem) -> Said<u64> {
-    let fields = problem.to_fields();
-    let (mut out, mut answer) = ([0; 99], [0; 4]);
-    // SAFETY: a record has a place for each field; it, `out` and `answer` are valid for the call, and apart.
-    let number = unsafe { examiner::raw::examiner_write_fields(fields.as_ptr(), out.as_mut_ptr(), out.len(), answer.as_mut_ptr()) };
-    let said = if number == 0 { Ok(answer[0]) } else { Err((number, answer[0])) };
-    assert_eq!(by_reference(reference::write_fields(&fields, &mut [0; 99])).map(|bytes| bytes as u64), said);
-    said
-}
+use reference::problem::{Edge, Problem, MOST_SIZE};
 
 fn m10() -> Problem {
     reference::read(&M10).expect("accepted")
@@ -183,8 +135,8 @@ fn the_longest_file_in_five_bytes_a_number() {
     let padded = in_five_bytes(&numbers);
     assert_eq!(padded.len(), 7_230);
     assert_eq!(read(&padded), Ok(128));
-    assert_eq!(write(&padded, 2_091), Ok(spelled(&numbers)));
-    assert_eq!(write(&padded, 2_090), Err((10, 2_091)));
+    assert_eq!(write(&padded, 2_059), Ok(spelled(&numbers)));
+    assert_eq!(write(&padded, 2_058), Err((10, 2_059)));
     assert_eq!(read(&padded[..7_229]), Err((1, 7_229)));
     assert_eq!(read(&[padded, vec![0]].concat()), Err((5, 7_230)));
 }

@@ -360,9 +360,9 @@ fn bounds_where_one_total_passes_the_limit() {
 
 #[test]
 fn the_longest_file_that_is_written() {
-    let file = file_of(&longest(&mut Random::seeded(6)));
-    assert_eq!(file.len(), 2_091);
-    assert!(reference::read(&file).is_ok());
+    let written = file_of(&longest(&mut Random::seeded(6)));
+    assert_eq!((written.len(), file::LONGEST), (2_059, 2_059));
+    assert!(reference::read(&written).is_ok());
 }
 
 /// Every refusal that the operations give on these bytes, by the plain methods and by the quick ones.

@@ -10,6 +10,8 @@ pub const MOST_VERTICES: usize = 128;
 pub const MOST_EDGES: usize = 512;
 /// The most loops in a problem.
 pub const MOST_LOOPS: usize = 32;
+/// The greatest bound of a loop.
+pub const MOST_VISITS: u32 = 4_096;
 
 /// A function.
 #[derive(Clone, Copy, Debug, Default, PartialEq, Eq, Hash)]
@@ -49,7 +51,7 @@ pub struct Loop {
     pub header: u32,
     /// The highest vertex of the range.
     pub last: u32,
-    /// The most visits to the header in one stay, 1 to 65,535.
+    /// The most visits to the header in one stay, 1 to [`MOST_VISITS`].
     pub bound: u32,
 }
 

@@ -30,7 +30,7 @@ mod refusal;
 
 pub use drawing::{Drawing, DrawnFunction, DrawnVertex};
 pub use eviction::{Eviction, Reason, MOST_SHOWN};
-pub use fields::{Edge, Fields, Function, Loop, Vertex, MOST_EDGES, MOST_FUNCTIONS, MOST_LOOPS, MOST_VERTICES};
+pub use fields::{Edge, Fields, Function, Loop, Vertex, MOST_EDGES, MOST_FUNCTIONS, MOST_LOOPS, MOST_VERTICES, MOST_VISITS};
 pub use refusal::{Refusal, RefusalKind};
 
 /// The numbers of items in a problem.
@@ -157,7 +157,7 @@ pub fn write_fields(fields: &Fields, out: &mut [u8]) -> Result<usize, Refusal> {
 /// let helper = DrawnFunction { size: 1, load: 3, vertices: vec![vertex(None, 7)], edges: vec![], loops: vec![] };
 /// let mut drawing = Drawing { scratchpad: 2, functions: vec![caller, helper] };
 ///
-/// let mut out = [0; 2_091];
+/// let mut out = [0; 2_059];
 /// let written = inline(&drawing, &mut out)?;
 /// let problem = &out[..written];
 /// // vertices 0 and 1 of the caller, the helper's copy, vertex 2 of the caller; the loop holds the copy
@@ -221,7 +221,7 @@ pub fn interference(file: &[u8], words: &mut [u32]) -> Result<usize, Refusal> {
 /// let vertices = [0, 1, 2, 0].map(|function| Vertex { function, cost: 1 });
 /// let edges = [(0, 1), (0, 2), (1, 3), (2, 3)].map(|(from, to)| Edge { from, to });
 /// let fields = Fields::new(3, &functions, &vertices, &edges, &[]).expect("there are places for all");
-/// let mut file = [0; 2_091];
+/// let mut file = [0; 2_059];
 /// let written = write_fields(&fields, &mut file)?;
 ///
 /// let priced = bound(&file[..written], &[0, 1, 2])?;
@@ -281,7 +281,7 @@ pub fn run(file: &[u8], layout: &[u8], walk: &[u32]) -> Result<Run, Refusal> {
 /// let vertices = [0, 1, 0, 2, 0, 1, 0].map(|function| Vertex { function, cost: 10 });
 /// let edges = [0, 1, 2, 3, 4, 5].map(|from| Edge { from, to: from + 1 });
 /// let fields = Fields::new(14, &functions, &vertices, &edges, &[]).expect("there are places for all");
-/// let mut file = [0; 2_091];
+/// let mut file = [0; 2_059];
 /// let written = write_fields(&fields, &mut file)?;
 /// let (problem, layout) = (&file[..written], [0, 1, 1]);
 ///

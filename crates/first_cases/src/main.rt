@@ -41,13 +41,13 @@ fn inner_loop() {
     bounded(b"an inner loop:", problem);
 }
 
-// Three nested loops from vertex 0 on, of 10^18 - 10^4 cycles in all, and then a branch through function 1 or 2, whose load costs are 4 and 3. If the
+// Three nested loops from vertex 0 on, of 10^18 - 4,000 cycles in all, and then a branch through function 1 or 2, whose load costs are 4 and 3. If the
 // vertex that joins them is of function 0, the second total is the smaller, by 3; if it is of function 1, document 01's is, by 1.
 fn near_limit(title: &[u8], joins: u64, cost: u64) {
     let functions = [3, 1, 5, 1, 4, 1, 3];
-    let vertices = [6, 0, 9999, 0, 999, 0, 9999999, 1, 0, 2, 0, joins, cost];
+    let vertices = [6, 0, 3999, 0, 3999, 0, 15624999, 1, 0, 2, 0, joins, cost];
     let edges = [9, 0, 1, 1, 2, 2, 0, 2, 1, 2, 2, 2, 3, 2, 4, 3, 5, 4, 5];
-    let loops = [3, 0, 2, 10000, 1, 2, 10000, 2, 2, 1000];
+    let loops = [3, 0, 2, 4000, 1, 2, 4000, 2, 2, 4000];
     let problem = samples::problem(3, &functions, &vertices, &edges, &loops);
     bounded(title, problem);
 }
@@ -57,8 +57,8 @@ fn main() {
     bounded(b"met before a loop and in it:", samples::met_twice());
     header_at_start();
     inner_loop();
-    near_limit(b"document 01's total past the limit:", 0, 9991);
-    near_limit(b"both past it:", 0, 9992);
-    near_limit(b"the second total past the limit:", 1, 9988);
-    near_limit(b"both past it:", 1, 9989);
+    near_limit(b"document 01's total past the limit:", 0, 3991);
+    near_limit(b"both past it:", 0, 3992);
+    near_limit(b"the second total past the limit:", 1, 3988);
+    near_limit(b"both past it:", 1, 3989);
 }

@@ -10,7 +10,7 @@ mostCycles = 16777215
 
 -- A loop's bound.
 abbrev pub mostVisits : ℕ
-mostVisits = 65535
+mostVisits = 4096
 
 -- The regions, 0 to 31.
 abbrev pub mostRegions : ℕ

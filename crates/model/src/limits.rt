@@ -3,7 +3,7 @@ pub const MOST_BYTES: usize = 16777215;
 
 pub const MOST_CYCLES: usize = 16777215;
 
-pub const MOST_VISITS: usize = 65535;
+pub const MOST_VISITS: usize = 4096;
 
 // How many regions there are, 0 to 31.
 pub const MOST_REGIONS: usize = 32;

@@ -7,14 +7,13 @@
 
 use super::{below, judge_edges, nest, Flat};
 use crate::drawing::{Numbers, GRAPH, NO_CALLEE};
+use crate::file::LONGEST;
 use crate::problem::{Refusal, MOST_EDGES, MOST_FUNCTIONS, MOST_LOOPS, MOST_SIZE, MOST_VERTICES, MOST_VISITS};
 
 /// Where the lists of a graph begin among its numbers, each behind its count.
 const VERTICES: usize = 3;
 const EDGES: usize = VERTICES + 2 * MOST_VERTICES + 1;
 const LOOPS: usize = EDGES + 2 * MOST_EDGES + 1;
-/// The longest file that is written.
-const LONGEST: usize = 2_091;
 
 /// The numbers of a graph.
 #[derive(Clone, Copy)]

@@ -16,6 +16,7 @@ use reference::drawing::Numbers;
 use reference::eviction::Searched;
 use reference::examples::{longest_shown, WorkedEviction};
 use reference::fast;
+use reference::file::LONGEST;
 use reference::layout::check;
 use reference::problem::*;
 use reference::{Drawing, DrawnFunction};
@@ -89,9 +90,9 @@ impl Subject {
     }
 }
 
-/// The first lawful problem of a plan, by ascending seeds, with an accepted layout of eight regions and what else is asked of it.
-fn subject(name: &str, plan: &Plan, suits: impl Fn(&Problem) -> bool) -> Subject {
-    for seed in 1..2_000 {
+/// The first lawful problem of a plan, by seeds ascending from `first`, with an accepted layout of eight regions and what else is asked of it.
+fn subject(name: &str, plan: &Plan, first: u64, suits: impl Fn(&Problem) -> bool) -> Subject {
+    for seed in first..2_000 {
         let mut random = Random::seeded(seed);
         let problem = lawful(&mut random, plan);
         let layout: Vec<u8> = (0..plan.functions).map(|_| random.field(0..=7) as u8).collect();
@@ -142,7 +143,7 @@ fn sketch(name: &'static str, mut functions: Vec<DrawnFunction>, calls: &dyn Fn(
         }
     }
     let numbers = Drawing { scratchpad: MOST_SIZE, functions }.to_numbers();
-    let mut file = vec![0; 2_091];
+    let mut file = vec![0; LONGEST];
     let written = reference::inline(&numbers, &mut file).expect("lawful");
     file.truncate(written);
     Sketch { name, numbers, file }
@@ -181,7 +182,7 @@ fn read(subject: &Subject) -> Times {
 }
 
 fn inline(sketch: &Sketch) -> Times {
-    let mut library_out = vec![0u8; 2_091];
+    let mut library_out = vec![0u8; LONGEST];
     let mut reference_out = library_out.clone();
     let (numbers, mut answer) = (&sketch.numbers, [0u64; 4]);
     let mut library = || {
@@ -305,12 +306,12 @@ fn main() {
     println!("Every call starts from the bytes of the problem file, or the numbers of the drawing. Buffers are not cleared between repetitions.\n");
 
     let full = |problem: &Problem| problem.edges.len() == MOST_EDGES;
+    let long = |problem: &Problem| full(problem) && long_walk(problem).is_some();
+    // from seed 2 on comes the problem that BENCHMARKS.md has had from the beginning
     let subjects = [
-        subject("loops side by side and nested", &largest(), |problem| full(problem) && long_walk(problem).is_some()),
-        subject("32 loops, each in the one before", &Plan { deep: true, ..largest() }, |problem| {
-            full(problem) && long_walk(problem).is_some()
-        }),
-        subject("no loops", &Plan { loops: 0, ..largest() }, full),
+        subject("loops side by side and nested", &largest(), 2, long),
+        subject("32 loops, each in the one before", &Plan { deep: true, ..largest() }, 1, long),
+        subject("no loops", &Plan { loops: 0, ..largest() }, 1, full),
     ];
     println!("| operation | largest problem | library | reference | ratio | |");
     println!("|---|---|---|---|---|---|");
@@ -352,7 +353,7 @@ fn main() {
     grown.extend([1, 4, 16, 32].map(|functions| Plan { functions, ..largest() }));
     grown.extend([1, 8, 16, 32].map(|loops| Plan { loops, deep: true, ..largest() }));
     for plan in grown {
-        let subject = subject("", &plan, |_| true);
+        let subject = subject("", &plan, 1, |_| true);
         let Counts { functions, vertices, edges, loops } = subject.problem.counts();
         let nested = if plan.deep { ", each in the one before" } else { "" };
         let (read, interference, bound) = (cell(read(&subject)), cell(interference(&subject)), cell(bound(&subject)));

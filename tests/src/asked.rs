@@ -1,0 +1,111 @@
+//! Operations asked of the library and of the independent implementation, by its plain methods and by its quick ones, which must say the same.
+
+use examiner::raw;
+use reference::fast;
+use reference::problem::{Problem, Refusal};
+use reference::{Drawing, Run};
+
+/// What an operation gives, or the number and the place of the refusal.
+pub type Said<T> = Result<T, (u32, u64)>;
+
+fn by_library<T>(result: Result<T, examiner::Refusal>) -> Said<T> {
+    result.map_err(|refusal| (refusal.number.number(), refusal.place))
+}
+
+fn by_reference<T>(result: Result<T, Refusal>) -> Said<T> {
+    result.map_err(|refusal| (u32::from(refusal.number), refusal.place))
+}
+
+/// What an export told: its first value, or the refusal.
+fn told(number: u32, [first, ..]: [u64; 4]) -> Said<usize> {
+    if number == 0 {
+        Ok(first as usize)
+    } else {
+        Err((number, first))
+    }
+}
+
+/// Read: the number of vertices.
+pub fn read(file: &[u8]) -> Said<usize> {
+    let said = by_library(examiner::read(file)).map(|counts| counts.vertices);
+    assert_eq!(by_reference(reference::read(file)).map(|problem| problem.vertices.len()), said, "{file:02X?}");
+    assert_eq!(by_reference(fast::read(file)).map(|flat| flat.counts()[1]), said, "{file:02X?}");
+    said
+}
+
+/// Write into so many bytes: those written.
+pub fn write(file: &[u8], length: usize) -> Said<Vec<u8>> {
+    let mut out = vec![0xA5; length];
+    let mut out_of_reference = out.clone();
+    let said = by_library(examiner::write(file, &mut out));
+    assert_eq!(by_reference(reference::write(file, &mut out_of_reference)), said, "{file:02X?}");
+    assert_eq!(out_of_reference, out, "{file:02X?}");
+    said.map(|bytes| out[..bytes].to_vec())
+}
+
+/// Write on the record of a problem, into 99 bytes: how many are written.
+pub fn write_fields(problem: &Problem) -> Said<usize> {
+    let fields = problem.to_fields();
+    let (mut out, mut answer) = ([0; 99], [0; 4]);
+    // SAFETY: a record has a place for each field; it, `out` and `answer` are valid for the call, and apart.
+    let number = unsafe { raw::examiner_write_fields(fields.as_ptr(), out.as_mut_ptr(), out.len(), answer.as_mut_ptr()) };
+    let said = told(number, answer);
+    assert_eq!(by_reference(reference::write_fields(&fields, &mut [0; 99])), said);
+    said
+}
+
+/// Interference into so many words: how many are filled.
+pub fn interference(file: &[u8], length: usize) -> Said<usize> {
+    let mut words = vec![0xA5; length];
+    let (mut plain, mut quick) = (words.clone(), words.clone());
+    let said = by_library(examiner::interference(file, &mut words));
+    assert_eq!(by_reference(reference::interference(file, &mut plain)), said, "{file:02X?}");
+    assert_eq!(by_reference(fast::interference(file, &mut quick)), said, "{file:02X?}");
+    assert_eq!((&plain, &quick), (&words, &words), "{file:02X?}");
+    said
+}
+
+/// Bound: the bound.
+pub fn bound(file: &[u8], layout: &[u8]) -> Said<u64> {
+    let said = by_library(examiner::bound(file, layout)).map(|bound| bound.bound);
+    assert_eq!(by_reference(reference::bound(file, layout)).map(|bound| bound.bound), said, "{file:02X?}");
+    assert_eq!(by_reference(fast::bound(file, layout)).map(|bound| bound.bound), said, "{file:02X?}");
+    said
+}
+
+/// Run: the cycles and the loads.
+pub fn run(file: &[u8], layout: &[u8], walk: &[u32]) -> Said<(u64, u64)> {
+    let said = by_library(examiner::run(file, layout, walk)).map(|run| (run.cycles, run.loads));
+    let cycles_and_loads = |run: Run| (run.cycles, run.loads);
+    assert_eq!(by_reference(reference::run(file, layout, walk)).map(cycles_and_loads), said, "{file:02X?}");
+    assert_eq!(by_reference(fast::run(file, layout, walk)).map(cycles_and_loads), said, "{file:02X?}");
+    said
+}
+
+/// Eviction into so many entries: how many are written.
+pub fn eviction(file: &[u8], layout: &[u8], vertex: u64, length: usize) -> Said<usize> {
+    let mut walk = vec![0xA5; length];
+    let mut walk_of_reference = walk.clone();
+    let said = by_library(examiner::eviction(file, layout, vertex, &mut walk)).map(|shown| shown.count);
+    assert_eq!(
+        by_reference(reference::eviction(file, layout, vertex, &mut walk_of_reference)).map(|shown| shown.count),
+        said,
+        "{file:02X?}"
+    );
+    assert_eq!(walk_of_reference, walk, "{file:02X?}");
+    said
+}
+
+/// Inline into so many bytes: those written.
+pub fn inline(drawing: &Drawing, length: usize) -> Said<Vec<u8>> {
+    let numbers = drawing.to_numbers();
+    let mut out = vec![0xA5; length];
+    let (mut plain, mut quick, mut answer) = (out.clone(), out.clone(), [0; 4]);
+    // SAFETY: a drawing has all its places; it, `out` and `answer` are valid for the call, and apart.
+    let number = unsafe { raw::examiner_inline(numbers.as_ptr(), out.as_mut_ptr(), out.len(), answer.as_mut_ptr()) };
+    let said = told(number, answer);
+    assert_eq!(by_reference(reference::inline(&numbers, &mut plain)), said, "{drawing:?}");
+    assert_eq!(by_reference(fast::inline(&numbers, &mut quick)), said, "{drawing:?}");
+    assert_eq!((&plain, &quick), (&out, &out), "{drawing:?}");
+    said.map(|bytes| out[..bytes].to_vec())
+}
