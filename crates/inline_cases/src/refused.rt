@@ -38,6 +38,20 @@ fn bad_graphs() {
     called(b"1: no edge back:", &[1, 0, 1], &[1, 0, 0, 2]);
 }
 
+// The greatest bound, and one more, which is 3 at 1.
+fn loop_bounds() {
+    called(
+        b"1: loop 0 to 0, bound 4,096:",
+        &[2, 0, 0, 0, 1],
+        &[1, 0, 0, 4096],
+    );
+    called(
+        b"1: loop 0 to 0, bound 4,097:",
+        &[2, 0, 0, 0, 1],
+        &[1, 0, 0, 4097],
+    );
+}
+
 // 3 at 1, and 9 at 0 before it.
 fn bad_sizes() {
     let mut d = [0u32; drawn::END];
@@ -106,6 +120,7 @@ pub fn all() {
     miscounted(b"no function:", 0);
     miscounted(b"33 functions:", 33);
     bad_graphs();
+    loop_bounds();
     bad_sizes();
     unknown_callee();
     last_calls();

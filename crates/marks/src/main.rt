@@ -1,5 +1,5 @@
-// M1 to M9 of document 01, a layout that leaves functions off, and a problem where splitting a region raises the bound: what Interference, Bound and Run
-// give. M1 is part of Table I of document 003, which is printed whole.
+// M1 to M9 of document 01, R with the greatest bound and past it, a layout that leaves functions off, and a problem where splitting a region raises the
+// bound: what Interference, Bound and Run give. M1 is part of Table I of document 003, which is printed whole.
 mod sets;
 mod show;
 
@@ -82,6 +82,26 @@ fn marks_of_r() {
     bound(b"M9 R with bound 1, layout 0 0: ", samples::r(1), &shared);
 }
 
+// R with the greatest bound, and with one more.
+fn greatest_bound() {
+    let layout = [0u8, 1];
+    bound(
+        b"R with bound 4,096, layout 0 1: ",
+        samples::r(4096),
+        &layout,
+    );
+    bound(
+        b"R with bound 4,097, layout 0 1: ",
+        samples::r(4097),
+        &layout,
+    );
+    bound(
+        b"R with bound 65,535, layout 0 1: ",
+        samples::r(65535),
+        &layout,
+    );
+}
+
 // No function is listed, and each has a region of its own.
 fn left_off() {
     let walk = [0u32, 1, 2, 3, 4, 5, 6];
@@ -112,6 +132,7 @@ fn main() {
     marks_of_p();
     mark_of_q();
     marks_of_r();
+    greatest_bound();
     left_off();
     splitting();
 }

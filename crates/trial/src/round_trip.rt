@@ -51,17 +51,33 @@ fn read_back(name: &[u8], problem: Problem, file: &[u8]) {
     }
 }
 
-// A problem's file, read back and written back from its padding.
-pub fn run(name: &[u8], padded_name: &[u8], problem: Problem) {
-    let mut out = io::buffer();
-    let written = file::write(problem, &mut out);
+// Writes a problem, and answers how many bytes its file has; of a refusal, which it shows, none.
+fn write(name: &[u8], problem: Problem, out: &mut [u8]) -> usize {
+    let written = file::write(problem, out);
     match written {
-        WriteAnswer::Refused(refusal) => refused(name, refusal),
-        WriteAnswer::Written(count) => {
-            let file = front(&out, count);
-            read_back(name, problem, file);
-            let mut room = io::buffer();
-            padded::rewrite(padded_name, file, &mut room);
+        WriteAnswer::Written(count) => count,
+        WriteAnswer::Refused(refusal) => {
+            refused(name, refusal);
+            0
         }
+    }
+}
+
+// A problem's file, read back.
+pub fn run(name: &[u8], problem: Problem) {
+    let mut out = io::buffer();
+    let count = write(name, problem, &mut out);
+    if count != 0 {
+        read_back(name, problem, front(&out, count));
+    }
+}
+
+// A problem's file of one-byte numbers, written back from its padding.
+pub fn from_padding(name: &[u8], problem: Problem) {
+    let mut out = io::buffer();
+    let count = write(name, problem, &mut out);
+    if count != 0 {
+        let mut room = io::buffer();
+        padded::rewrite(name, front(&out, count), &mut room);
     }
 }
