@@ -1,4 +1,4 @@
--- The worked examples hold, M1 to M10 and those of 3/14, each in the words of the definitions: one computation tests the whole table.
+-- The worked examples hold, M1 to M10 and those of the requests, each in the words of the definitions: one computation tests the whole table.
 use mathlib.Core.Path.{_≡_, refl}
 use mathlib.Core.Bool.{true}
 use mathlib.Core.List.{zipWith, flatMap, List·Memᴰ}

@@ -1,6 +1,6 @@
 -- The worked examples M1 to M10 of document 01, in its order; each comment has its words. Where it gives some of Bound's four numbers (bytes needed,
--- contested vertices, first loads, bound), or a run without its loads, the others stand here too. Then two of request 3/14, one for each total, and files with
--- padded numbers, of request 6/14.
+-- contested vertices, first loads, bound), or a run without its loads, the others stand here too. Then two of request 3/14, one for each total, files with
+-- padded numbers, of request 6/14, and loop bounds at their greatest and past it, of request 7/14.
 use Prim.Native.Nat.{ℕ, _+_}
 use mathlib.Core.List.{List, [], _∷_, _++_}
 use lib.ListN.{take}
@@ -26,6 +26,17 @@ twoVertices = 0x01 ∷ 0x08 ∷ 0x01 ∷ 0x08 ∷ 0x05 ∷ 0x02 ∷ 0x00 ∷ 0x0
 
 abbrev edgeTwice : List ℕ
 edgeTwice = 0x00 ∷ 0x01 ∷ 0x00 ∷ 0x01 ∷ 0x00 ∷ []
+
+-- R's file up to its edges, with the number of loops and the loops behind them.
+abbrev withLoops : List ℕ → List ℕ
+withLoops loops =
+    0x01 ∷ 0x02 ∷ 0x02 ∷ 0x01 ∷ 0x05 ∷ 0x01 ∷ 0x03
+    ∷ 0x04 ∷ 0x00 ∷ 0x01 ∷ 0x00 ∷ 0x02 ∷ 0x01 ∷ 0x07 ∷ 0x00 ∷ 0x01
+    ∷ 0x04 ∷ 0x00 ∷ 0x01 ∷ 0x01 ∷ 0x02 ∷ 0x01 ∷ 0x03 ∷ 0x02 ∷ 0x01 ∷ loops
+
+-- R's file, with the bytes of its loop's bound.
+abbrev withBound : List ℕ → List ℕ
+withBound bound = withLoops (0x01 ∷ 0x01 ∷ 0x02 ∷ bound)
 
 unfoldable pub marks : List Claim
 marks =
@@ -81,4 +92,15 @@ marks =
     ∷ readRefused (twoVertices ++ (0x02 ∷ edgeTwice)) 4 13
     ∷ readRefused (inFive (twoVertices ++ (0x02 ∷ edgeTwice))) 4 65
     ∷ readRefused (twoVertices ++ (inFive (0x02 ∷ []) ++ edgeTwice)) 4 17
+    -- 7/14: R's file with bound 4,096 holds that problem, in two bytes or five. 4,097, in either, and 65,535 are 3 at 28, in the file and in the record.
+    ∷ reads (withBound (0x80 ∷ 0x20 ∷ [])) (R 4096)
+    ∷ reads (withBound (0x80 ∷ 0xA0 ∷ 0x80 ∷ 0x80 ∷ 0x00 ∷ [])) (R 4096)
+    ∷ readRefused (withBound (0x81 ∷ 0x20 ∷ [])) 3 28
+    ∷ readRefused (withBound (0x81 ∷ 0xA0 ∷ 0x80 ∷ 0x80 ∷ 0x00 ∷ [])) 3 28
+    ∷ readRefused (withBound (0xFF ∷ 0xFF ∷ 0x03 ∷ [])) 3 28
+    ∷ boundRefused (R 4097) (0 ∷ 1 ∷ []) 3 28
+    ∷ boundRefused (R 65535) (0 ∷ 1 ∷ []) 3 28
+    -- A second loop 1 to 2 is 4 at 29 with bound 5, and 3 at 31 with bound 5,000.
+    ∷ readRefused (withLoops (0x02 ∷ 0x01 ∷ 0x02 ∷ 0x04 ∷ 0x01 ∷ 0x02 ∷ 0x05 ∷ [])) 4 29
+    ∷ readRefused (withLoops (0x02 ∷ 0x01 ∷ 0x02 ∷ 0x04 ∷ 0x01 ∷ 0x02 ∷ 0x88 ∷ 0x27 ∷ [])) 3 31
     ∷ []
