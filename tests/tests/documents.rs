@@ -255,20 +255,30 @@ fn an_export_is_in_the_library_the_header_and_the_wrapper() {
     assert_eq!(names_behind(&wrapper, "pub fn "), exports, "in bindings/rust/src/raw.rs");
 }
 
+/// The number behind a mark that begins a line, up to what ends it.
+fn number_behind(text: &str, mark: &str, end: &str) -> Option<usize> {
+    text.lines().find_map(|line| line.strip_prefix(mark)?.strip_suffix(end)?.parse().ok())
+}
+
 #[test]
-fn the_header_and_the_wrapper_have_the_same_limits() {
-    let header = fs::read_to_string(root().join("include/examiner.h")).expect("the header");
-    let defined = |name: &str| header.lines().find_map(|line| line.strip_prefix(&format!("#define EXAMINER_MOST_{name} "))?.parse().ok());
+fn the_library_the_header_and_the_wrapper_have_the_same_limits() {
+    let text = |path: &str| fs::read_to_string(root().join(path)).expect(path);
+    let header = text("include/examiner.h");
+    let source = text("crates/model/src/places.rt") + &text("crates/model/src/limits.rt");
+    let in_header = |name: &str| number_behind(&header, &format!("#define EXAMINER_MOST_{name} "), "");
+    let in_source = |name: &str| number_behind(&source, &format!("pub const MOST_{name}: usize = "), ";");
     let limits = [
         ("FUNCTIONS", examiner::MOST_FUNCTIONS),
         ("VERTICES", examiner::MOST_VERTICES),
         ("EDGES", examiner::MOST_EDGES),
         ("LOOPS", examiner::MOST_LOOPS),
-        ("SHOWN", examiner::MOST_SHOWN),
+        ("VISITS", examiner::MOST_VISITS as usize),
     ];
     for (name, most) in limits {
-        assert_eq!(defined(name), Some(most), "EXAMINER_MOST_{name}");
+        assert_eq!((in_header(name), in_source(name)), (Some(most), Some(most)), "MOST_{name} of the header and of the library");
     }
+    // the library has it as a definition, of which the code makes no use
+    assert_eq!(in_header("SHOWN"), Some(examiner::MOST_SHOWN));
 }
 
 /// The crates that a crate stands on, itself first, with the libraries of the kit that each uses.
