@@ -275,7 +275,7 @@ pub fn followed_by(mut problem: Problem, more: u64) -> Problem {
             }
         }
     }
-    assert_eq!(rest, 0, "the rest is below the most visits after each nest");
+    assert_eq!(rest, 0, "after each nest less is left than the visits that it makes");
     problem.edges.sort_unstable();
     problem
 }
