@@ -1,7 +1,7 @@
 //! The greatest loop bound, 4,096: the readings that were settled, asked of the library and of the independent implementation.
 
 use examiner_tests::asked::{bound, eviction, inline, interference, read, run, write, write_fields};
-use examiner_tests::damage::{file_of, numbers, spelled};
+use examiner_tests::damage::{file_of, numbers};
 use examiner_tests::padding::in_five_bytes;
 use examiner_tests::problems::with_total;
 use reference::examples::{chain, d3, r};
@@ -100,39 +100,52 @@ fn it_comes_before_4_of_the_same_loop() {
     }
 }
 
-/// A bound of 4,097, and further faults behind it or in what else is handed in.
+/// Faults behind the bound, with the number that each is refused for where the bound is in range.
 #[test]
-fn it_comes_before_what_follows() {
-    let refused = (3, PLACE);
-    // a loop that does not ascend, a byte more, and no edge out of vertex 0, no edge back, a range that holds the last vertex
-    let mut faults = vec![spelled(&[numbers(&r_with(4_097)), vec![0]].concat())];
-    let spoil: [fn(&mut Problem); 4] = [
-        |problem| problem.loops.push(Loop { header: 0, last: 0, bound: 1 }),
-        |problem| problem.edges[0] = Edge { from: 0, to: 0 },
-        |problem| problem.edges[3] = Edge { from: 2, to: 3 },
-        |problem| problem.loops[0].last = 3,
+fn it_comes_before_what_is_behind_it_in_the_file() {
+    let faults: [(u32, fn(&mut Problem)); 5] = [
+        (4, |problem| problem.loops.push(Loop { header: 0, last: 0, bound: 1 })),
+        (6, |problem| problem.edges[0] = Edge { from: 0, to: 0 }),
+        (7, |problem| problem.loops[0].last = 3),
+        (8, |problem| problem.edges[3] = Edge { from: 2, to: 0 }),
+        (9, |problem| problem.edges[3] = Edge { from: 2, to: 3 }),
     ];
-    for spoil in spoil {
-        let mut problem = r_with(4_097);
-        spoil(&mut problem);
-        assert_eq!(write_fields(&problem), Err(refused), "{problem:?}");
-        faults.push(file_of(&problem));
+    for (number, fault) in faults {
+        let refusals = |bound| {
+            let mut problem = r_with(bound);
+            fault(&mut problem);
+            [read(&file_of(&problem)), write_fields(&problem)].map(|said| said.expect_err("a fault"))
+        };
+        assert_eq!(refusals(4_096).map(|(number, _)| number), [number; 2]);
+        assert_eq!(refusals(4_097), [(3, PLACE); 2], "before {number}");
     }
-    for file in faults {
-        assert_eq!(read(&file), Err(refused), "{file:02X?}");
-    }
-    let file = file_of(&r_with(4_097));
-    assert_eq!(write(&file, 0), Err(refused));
-    assert_eq!(interference(&file, 0), Err(refused));
-    // 11, 12 and 13; then 17, 15, 21 and 10
-    for layout in [&[0, 1, 2][..], &[0, 32]] {
-        assert_eq!(bound(&file, layout), Err(refused), "{layout:?}");
-    }
-    let narrow = file_of(&Problem { scratchpad: 1, ..r_with(4_097) });
-    assert_eq!(bound(&narrow, &[0, 1]), Err(refused));
-    assert_eq!(run(&file, &[0, 1], &vec![0; MOST_ENTRIES + 1]), Err(refused));
-    assert_eq!(run(&file, &[0, 1], &[1]), Err(refused));
-    assert_eq!(eviction(&file, &[0, 1], 4, 0), Err(refused));
+    let longer = |bound| [file_of(&r_with(bound)), vec![0]].concat();
+    assert_eq!(read(&longer(4_096)), Err((5, 30)));
+    assert_eq!(read(&longer(4_097)), Err((3, PLACE)));
+}
+
+/// Whatever else that is handed in is at fault.
+#[test]
+fn it_comes_before_buffers_layouts_walks_and_vertices() {
+    let refusals = |value| {
+        let file = file_of(&r_with(value));
+        let narrow = file_of(&Problem { scratchpad: 1, ..r_with(value) });
+        let said = [
+            write(&file, 0).map(drop),
+            interference(&file, 0).map(drop),
+            bound(&file, &[0, 1, 2]).map(drop),
+            bound(&file, &[0, 32]).map(drop),
+            bound(&narrow, &[0, 1]).map(drop),
+            run(&file, &[0, 1], &vec![0; MOST_ENTRIES + 1]).map(drop),
+            run(&file, &[0, 1], &[1]).map(drop),
+            run(&file, &[0, 1], &visits(4_097)).map(drop),
+            eviction(&file, &[0, 1], 4, 0).map(drop),
+            eviction(&file, &[0, 1], 2, 0).map(drop),
+        ];
+        said.map(|said| said.expect_err("a fault"))
+    };
+    assert_eq!(refusals(4_096).map(|(number, _)| number), [10, 10, 11, 12, 13, 17, 15, 16, 21, 10]);
+    assert_eq!(refusals(4_097), [(3, PLACE); 10]);
 }
 
 /// The drawing D3 with other bounds for the loops of its two functions.
@@ -153,22 +166,21 @@ fn a_drawn_bound_is_judged_and_kept_as_it_is() {
     assert_eq!(inline(&d3_with([4_096, 4_097]), 99), Err((3, 1)));
 }
 
-/// The lowest function that breaks a rule of its graph goes first, then 20, 18 and 19, and last 10.
+/// A call at the last vertex, one of itself, and calls of too many vertices.
 #[test]
 fn a_drawn_bound_comes_before_20_18_and_19() {
-    let helper = d3_with([4, 4_097]).functions.remove(1);
-    let refused = |caller: DrawnFunction| inline(&Drawing { scratchpad: 9, functions: vec![caller, helper.clone()] }, 0);
-    assert_eq!(refused(chain(&[])), Err((3, 1)));
-    // a call at the last vertex, one of itself, and calls of too many vertices
+    let inlined = |caller: &DrawnFunction, bound| {
+        let helper = d3_with([4, bound]).functions.remove(1);
+        inline(&Drawing { scratchpad: 9, functions: vec![caller.clone(), helper] }, 99)
+    };
     let mut last_calls = chain(&[]);
     last_calls.vertices[0].callee = Some(1);
-    for caller in [last_calls, chain(&[Some(0)]), chain(&[Some(1); 127])] {
-        assert_eq!(refused(caller.clone()), Err((3, 1)), "{caller:?}");
-        let mut lawful = helper.clone();
-        lawful.loops[0].bound = 4_096;
-        let other = inline(&Drawing { scratchpad: 9, functions: vec![caller, lawful] }, 0);
-        assert!(other.is_err_and(|(number, _)| [20, 18, 19].contains(&number)));
+    for (number, caller) in [(20, last_calls), (18, chain(&[Some(0)])), (19, chain(&[Some(1); 127]))] {
+        assert_eq!(inlined(&caller, 4_096).map_err(|(number, _)| number), Err(number));
+        assert_eq!(inlined(&caller, 4_097), Err((3, 1)), "before {number}");
     }
+    // also where nothing calls it
+    assert_eq!(inlined(&chain(&[]), 4_097), Err((3, 1)));
 }
 
 /// Three loops of the greatest bound, each in the one before, around two vertices of two functions.
