@@ -82,7 +82,7 @@ fn marks_of_r() {
     bound(b"M9 R with bound 1, layout 0 0: ", samples::r(1), &shared);
 }
 
-// R with the greatest bound, and with one more.
+// R with the greatest bound, and with greater ones, which are out of range.
 fn greatest_bound() {
     let layout = [0u8, 1];
     bound(

@@ -65,7 +65,8 @@ pub fn q() -> Problem
     problem(2, &functions, &vertices, &edges, &[0])
 }
 
-// R has bound 4; M9 asks it with bound 1 too, and 7/14 with 4,096 and more. Q's functions; vertices of functions 0 0 1 0 with costs 1, 2, 7, 1; one loop, 1 to 2.
+// R has bound 4; M9 asks it with bound 1 too, and 7/14 with 4,096 and more. Q's functions; vertices of functions 0 0 1 0 with costs 1, 2, 7, 1; one loop,
+// 1 to 2.
 pub fn r(bound: u64) -> Problem
     ensures { λ result. ⌜ result ≡ R bound ⌝ }
 {
