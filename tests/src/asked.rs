@@ -1,9 +1,10 @@
-//! Operations asked of the library and of the independent implementation, by its plain methods and by its quick ones, which must say the same.
+//! Operations asked of the library and of the independent implementation, by its plain methods and, but for Write, by its quick ones: all must say
+//! the same.
 
 use examiner::raw;
 use reference::fast;
 use reference::problem::{Problem, Refusal};
-use reference::{Drawing, Run};
+use reference::{Drawing, Eviction, Run};
 
 /// What an operation gives, or the number and the place of the refusal.
 pub type Said<T> = Result<T, (u32, u64)>;
@@ -85,14 +86,12 @@ pub fn run(file: &[u8], layout: &[u8], walk: &[u32]) -> Said<(u64, u64)> {
 /// Eviction into so many entries: how many are written.
 pub fn eviction(file: &[u8], layout: &[u8], vertex: u64, length: usize) -> Said<usize> {
     let mut walk = vec![0xA5; length];
-    let mut walk_of_reference = walk.clone();
+    let (mut plain, mut quick) = (walk.clone(), walk.clone());
     let said = by_library(examiner::eviction(file, layout, vertex, &mut walk)).map(|shown| shown.count);
-    assert_eq!(
-        by_reference(reference::eviction(file, layout, vertex, &mut walk_of_reference)).map(|shown| shown.count),
-        said,
-        "{file:02X?}"
-    );
-    assert_eq!(walk_of_reference, walk, "{file:02X?}");
+    let count = |shown: Eviction| shown.count;
+    assert_eq!(by_reference(reference::eviction(file, layout, vertex, &mut plain)).map(count), said, "{file:02X?}");
+    assert_eq!(by_reference(fast::eviction(file, layout, vertex, &mut quick)).map(count), said, "{file:02X?}");
+    assert_eq!((&plain, &quick), (&walk, &walk), "{file:02X?}");
     said
 }
 

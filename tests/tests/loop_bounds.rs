@@ -11,7 +11,7 @@ use reference::{Drawing, DrawnFunction};
 /// Where the bound of R's loop stands in its file.
 const PLACE: u64 = 28;
 
-/// Bounds that are out of range. Those above 65,535 were so before request 7/14 too.
+/// Bounds that are out of range. 0 and those above 65,535 were so before request 7/14 too.
 const OUT_OF_RANGE: [u32; 8] = [0, 4_097, 8_192, 65_534, 65_535, 65_536, 16_777_216, u32::MAX];
 
 fn r_with(bound: u32) -> Problem {
