@@ -1,4 +1,5 @@
 pub mod Cases
+pub mod Refusals
 pub mod Lists
 pub mod Mapped
 pub mod Search

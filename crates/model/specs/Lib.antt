@@ -23,6 +23,7 @@ pub mod Drawings
 pub mod Inlining
 pub mod Inlined
 pub mod CallStack
-pub mod Outcomes
 pub mod Decimals
+pub mod Sentences
+pub mod Outcomes
 pub mod Slips

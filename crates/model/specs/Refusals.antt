@@ -1,8 +1,10 @@
 -- Refusals: the documents' number and place of each.
-use Prim.Native.Nat.{ℕ}
+use Prim.Native.Nat.{ℕ, _-_}
 use mathlib.Core.Path.{_≡_}
+use mathlib.Core.List.{List, [], _∷_}
+use lib.ListN.{getD}
 use Rattle.model.specs.declared.Refusal.{Refusal}
-use Rattle.model.specs.declared.Refusal.the-variants.{EndsEarly, Misspelt, OutOfRange, NotAscending, LeftOver, MissingEdge, WrongLoop, WrongEdge, NoEdgeBack, BufferTooShort, LayoutTooLong, UnknownRegion, ScratchpadTooSmall, BoundTooLarge, WrongStep, BeyondBound, WalkTooLong, Recursive, CountPassed, LastCalls, UnknownVertex}
+use Rattle.model.specs.declared.Refusal.the-variants.{EndsEarly, Misspelt, OutOfRange, NotAscending, LeftOver, MissingEdge, WrongLoop, WrongEdge, NoEdgeBack, BufferTooShort, LayoutTooLong, UnknownRegion, ScratchpadTooSmall, BoundTooLarge, WrongStep, BeyondBound, WalkTooLong, Recursive, CountPassed, LastCalls, UnknownVertex, NoSentence}
 use Rattle.model.specs.declared.Verdict.{Verdict}
 use Rattle.model.specs.declared.Verdict.the-variants as verdict
 
@@ -28,6 +30,7 @@ number (Recursive at) = 18
 number (CountPassed at) = 19
 number (LastCalls at) = 20
 number (UnknownVertex at) = 21
+number (NoSentence at) = 22
 
 abbrev pub place : Refusal → ℕ
 place (EndsEarly at) = at
@@ -51,6 +54,42 @@ place (Recursive at) = at
 place (CountPassed at) = at
 place (LastCalls at) = at
 place (UnknownVertex at) = at
+place (NoSentence at) = at
+
+-- The last refusal's number.
+abbrev pub lastRefusal : ℕ
+lastRefusal = 22
+
+-- The refusals in the order of their numbers, each without its place.
+abbrev pub refusals : List (ℕ → Refusal)
+refusals =
+    EndsEarly
+    ∷ Misspelt
+    ∷ OutOfRange
+    ∷ NotAscending
+    ∷ LeftOver
+    ∷ MissingEdge
+    ∷ WrongLoop
+    ∷ WrongEdge
+    ∷ NoEdgeBack
+    ∷ BufferTooShort
+    ∷ LayoutTooLong
+    ∷ UnknownRegion
+    ∷ ScratchpadTooSmall
+    ∷ BoundTooLarge
+    ∷ WrongStep
+    ∷ BeyondBound
+    ∷ WalkTooLong
+    ∷ Recursive
+    ∷ CountPassed
+    ∷ LastCalls
+    ∷ UnknownVertex
+    ∷ NoSentence
+    ∷ []
+
+-- The refusal with a number, 1 to the last, and a place.
+abbrev pub refusalOf : ℕ → ℕ → Refusal
+refusalOf n = getD refusals (n - 1) NoSentence
 
 -- The same refusal at another place.
 abbrev pub placedAt : Refusal → ℕ → Refusal
@@ -75,6 +114,7 @@ placedAt (Recursive at) k = Recursive k
 placedAt (CountPassed at) k = CountPassed k
 placedAt (LastCalls at) k = LastCalls k
 placedAt (UnknownVertex at) k = UnknownVertex k
+placedAt (NoSentence at) k = NoSentence k
 
 -- A verdict that refuses.
 abbrev pub Refuses : Verdict → Type 0

@@ -1,6 +1,7 @@
 // The problem of document 01 and what the operations answer. What they mean is in specs/.
 ghost use mathlib.Core.Path.{_≡_};
-ghost use Rattle.model.specs.Refusals.{number, place, placedAt, Refuses};
+ghost use Prim.Native.Nat.{_≤_};
+ghost use Rattle.model.specs.Refusals.{lastRefusal, number, place, refusalOf, placedAt, Refuses};
 ghost use Rattle.model.specs.declared.Verdict.the-variants.{Refused};
 
 pub mod drawn;
@@ -55,7 +56,7 @@ pub struct Problem {
 // A drawn program: one graph per function, as numbers.
 pub type Drawing = [u32; drawn::END];
 
-// Why an operation refuses, each with its place. In the order of their numbers, 1 to 21.
+// Why an operation refuses, each with its place. In the order of their numbers, 1 to 22.
 pub enum Refusal {
     EndsEarly(u64),
     Misspelt(u64),
@@ -78,6 +79,7 @@ pub enum Refusal {
     CountPassed(u64),
     LastCalls(u64),
     UnknownVertex(u64),
+    NoSentence(u64),
 }
 
 // What a check without a result says.
@@ -170,6 +172,24 @@ pub enum EvictionAnswer {
     Refused(Refusal),
 }
 
+// What a sentence says: a refusal, or why a vertex pays its load.
+pub enum Remark {
+    Refused(Refusal),
+    Explained(Reason),
+}
+
+// Word's result: the bytes written.
+pub enum WordAnswer {
+    Worded(usize),
+    Refused(Refusal),
+}
+
+// Read-sentence's result: the remark that the sentence came from.
+pub enum SentenceAnswer {
+    Meant(Remark),
+    Refused(Refusal),
+}
+
 // A vertex of an inlined drawing: a vertex of a function's copy, and the number of the copy's first vertex. The call vertex of a copy is the one before its
 // first.
 pub struct Row {
@@ -210,6 +230,7 @@ pub fn number_of(refusal: Refusal) -> u32
         Refusal::CountPassed(_) => 19,
         Refusal::LastCalls(_) => 20,
         Refusal::UnknownVertex(_) => 21,
+        Refusal::NoSentence(_) => 22,
     }
 }
 
@@ -238,7 +259,39 @@ pub fn place_of(refusal: Refusal) -> u64
         | Refusal::Recursive(at)
         | Refusal::CountPassed(at)
         | Refusal::LastCalls(at)
-        | Refusal::UnknownVertex(at) => at,
+        | Refusal::UnknownVertex(at)
+        | Refusal::NoSentence(at) => at,
+    }
+}
+
+// The refusal with a number, 1 to the last, and a place.
+pub fn refusal_of(number: u32, at: u64) -> Refusal
+    requires { ⌜ (1 ≤ number) × (number ≤ lastRefusal) ⌝ }
+    ensures { λ r. ⌜ r ≡ refusalOf number at ⌝ }
+{
+    match number {
+        1 => Refusal::EndsEarly(at),
+        2 => Refusal::Misspelt(at),
+        3 => Refusal::OutOfRange(at),
+        4 => Refusal::NotAscending(at),
+        5 => Refusal::LeftOver(at),
+        6 => Refusal::MissingEdge(at),
+        7 => Refusal::WrongLoop(at),
+        8 => Refusal::WrongEdge(at),
+        9 => Refusal::NoEdgeBack(at),
+        10 => Refusal::BufferTooShort(at),
+        11 => Refusal::LayoutTooLong(at),
+        12 => Refusal::UnknownRegion(at),
+        13 => Refusal::ScratchpadTooSmall(at),
+        14 => Refusal::BoundTooLarge(at),
+        15 => Refusal::WrongStep(at),
+        16 => Refusal::BeyondBound(at),
+        17 => Refusal::WalkTooLong(at),
+        18 => Refusal::Recursive(at),
+        19 => Refusal::CountPassed(at),
+        20 => Refusal::LastCalls(at),
+        21 => Refusal::UnknownVertex(at),
+        _ => Refusal::NoSentence(at),
     }
 }
 
@@ -246,29 +299,7 @@ pub fn place_of(refusal: Refusal) -> u64
 pub fn placed_at(refusal: Refusal, at: u64) -> Refusal
     ensures { λ r. ⌜ r ≡ placedAt refusal at ⌝ }
 {
-    match refusal {
-        Refusal::EndsEarly(_) => Refusal::EndsEarly(at),
-        Refusal::Misspelt(_) => Refusal::Misspelt(at),
-        Refusal::OutOfRange(_) => Refusal::OutOfRange(at),
-        Refusal::NotAscending(_) => Refusal::NotAscending(at),
-        Refusal::LeftOver(_) => Refusal::LeftOver(at),
-        Refusal::MissingEdge(_) => Refusal::MissingEdge(at),
-        Refusal::WrongLoop(_) => Refusal::WrongLoop(at),
-        Refusal::WrongEdge(_) => Refusal::WrongEdge(at),
-        Refusal::NoEdgeBack(_) => Refusal::NoEdgeBack(at),
-        Refusal::BufferTooShort(_) => Refusal::BufferTooShort(at),
-        Refusal::LayoutTooLong(_) => Refusal::LayoutTooLong(at),
-        Refusal::UnknownRegion(_) => Refusal::UnknownRegion(at),
-        Refusal::ScratchpadTooSmall(_) => Refusal::ScratchpadTooSmall(at),
-        Refusal::BoundTooLarge(_) => Refusal::BoundTooLarge(at),
-        Refusal::WrongStep(_) => Refusal::WrongStep(at),
-        Refusal::BeyondBound(_) => Refusal::BeyondBound(at),
-        Refusal::WalkTooLong(_) => Refusal::WalkTooLong(at),
-        Refusal::Recursive(_) => Refusal::Recursive(at),
-        Refusal::CountPassed(_) => Refusal::CountPassed(at),
-        Refusal::LastCalls(_) => Refusal::LastCalls(at),
-        Refusal::UnknownVertex(_) => Refusal::UnknownVertex(at),
-    }
+    refusal_of(number_of(refusal), at)
 }
 
 // The refusal that a verdict holds, where it refuses. No refusal is invented for the other case: it is never met, and a loop without an end stands there.

@@ -1,4 +1,4 @@
-// The greatest value of a number that no list's room limits (a size, a cost, a loop's bound), and the number of regions.
+// The greatest value of a number that no list's room limits (a size, a cost, a loop's bound), the number of regions, and the limits of answers.
 pub const MOST_BYTES: usize = 16777215;
 
 pub const MOST_CYCLES: usize = 16777215;
@@ -10,3 +10,11 @@ pub const MOST_REGIONS: usize = 32;
 
 // The bound's limit: the greatest bound that is given.
 pub const MOST_BOUND: u64 = 1_000_000_000_000_000_000;
+
+// The last refusal's number, and the greatest place of one.
+pub const LAST_REFUSAL: u32 = 22;
+
+pub const MOST_PLACE: u64 = 18_446_744_073_709_551_615;
+
+// No sentence has more bytes.
+pub const MOST_SENTENCE: usize = 128;
