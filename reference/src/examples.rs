@@ -1,9 +1,11 @@
-//! The worked examples of document 01, one more, those of the two totals, and those of drawings; those of evictions are in a file of their
-//! own.
+//! The worked examples of document 01, one more, those of the two totals, and those of drawings; those of evictions and of sentences are in
+//! files of their own.
 
 mod evictions;
+mod sentences;
 
 pub use evictions::{evictions, longest_shown, WorkedEviction};
+pub use sentences::{sentences, NO_SENTENCES};
 
 use crate::drawing::*;
 use crate::file::encode;

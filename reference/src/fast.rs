@@ -1,7 +1,8 @@
 //! The quickest honest methods known to us, for the benchmark.
 //!
-//! Honest: each operation starts from the bytes of the file, or the numbers of the drawing, and gives exactly what the documents ask for,
-//! refusals and lent memory included; nothing is kept from one call to the next. The tests hold it to the plain methods of this crate.
+//! Honest: each operation starts from the bytes of the file, the numbers of the drawing, the remark or the text, and gives exactly what the
+//! documents ask for, refusals and lent memory included; nothing is kept from one call to the next. The tests hold it to the plain methods of
+//! this crate.
 //!
 //! - A set of vertices, functions or loops is one machine word.
 //! - Interference is a flow along the edges, in sweeps over the vertices whose rows have grown since they were last passed on.
@@ -9,13 +10,15 @@
 //!   one visited in the region of its own: one word a vertex says which functions may be the latest of their region, and one which
 //!   may not have been visited yet. These also say which vertices are early, and both totals come of one pass over the vertices.
 //! - Run looks each step up in a table of all pairs of vertices, and counts visits to every vertex as if it were a header.
-//! - Inline and Eviction are in files of their own.
+//! - Inline, Eviction and the sentences are in files of their own.
 
 mod eviction;
 mod inline;
+mod sentence;
 
 pub use eviction::eviction;
 pub use inline::inline;
+pub use sentence::{read_sentence, word};
 
 use crate::layout::Bound;
 use crate::problem::{

@@ -11,11 +11,12 @@
 //! | the filled-in layout | [`layout::filled`]: the free regions are dealt out | [`layout::filled_in_turn`]: each function looks at all before it |
 //! | why a vertex pays its load | [`eviction::Searched`]: its interference set, then a search forwards over vertices and phases | [`eviction::AllWalks`]: every walk by length, looking back |
 //! | a run | [`run::simulate`]: one pass | [`run::simulate_by_looking_back`]: each visit looks at all before it |
+//! | sentences | [`sentence::among`]: each form of sentence held to the text in turn | [`fast::read_sentence`]: its numbers first; sentences written that begin with a front |
 //! | one problem from a drawing | [`inline::recursively`]: each callee is inlined whole and moved | [`inline::by_splicing`]: one call at a time; [`stack::lawful_runs`]: every lawful run with a call stack |
 //!
 //! [`fast`] holds the quickest honest methods known to us; the benchmark measures the library against these.
 //!
-//! The operations below take the problem as its file, as the exports of the library do; two make such a file.
+//! The operations below take the problem as its file, as the exports of the library do; two make such a file, and two are about sentences.
 
 pub mod drawing;
 pub mod eviction;
@@ -29,6 +30,7 @@ pub mod layout;
 pub mod longest;
 pub mod problem;
 pub mod run;
+pub mod sentence;
 pub mod stack;
 pub mod totals;
 
@@ -37,6 +39,7 @@ pub use eviction::{Eviction, Reason};
 pub use layout::Bound;
 pub use problem::{Counts, Edge, Function, Loop, Problem, Refusal, Vertex, FIELDS};
 pub use run::Run;
+pub use sentence::{Form, Remark};
 pub use totals::Totals;
 
 /// Read: the problem that a file holds.
@@ -101,4 +104,17 @@ pub fn eviction(file: &[u8], layout: &[u8], vertex: u64, walk: &mut [u32]) -> Re
     let problem = read(file)?;
     let (regions, _) = layout::check(&problem, layout)?;
     eviction::of(&problem, &regions, vertex, walk)
+}
+
+/// Word: writes the sentence of a remark, and gives the bytes written. 3 where it has none, then 10.
+pub fn word(remark: Remark, text: &mut [u8]) -> Result<usize, Refusal> {
+    let sentence = sentence::sentence(remark).ok_or(Refusal::at(3, 0))?;
+    let room = text.get_mut(..sentence.len()).ok_or(Refusal::at(10, sentence.len()))?;
+    room.copy_from_slice(sentence.as_bytes());
+    Ok(sentence.len())
+}
+
+/// Read-sentence: the remark whose sentence a text is.
+pub fn read_sentence(text: &[u8]) -> Result<Remark, Refusal> {
+    sentence::among(Form::refusals().chain(Form::reasons()), text)
 }

@@ -29,7 +29,7 @@ pub const FIELDS: usize = 1 + (1 + 2 * MOST_FUNCTIONS) + (1 + 2 * MOST_VERTICES)
 /// A refusal: its number, and the place.
 #[derive(Clone, Copy, Debug, PartialEq, Eq, Hash)]
 pub struct Refusal {
-    /// 1 to 21.
+    /// 1 to 22.
     pub number: u8,
     /// What the place means depends on the number.
     pub place: u64,
