@@ -3,8 +3,10 @@
  * x86-64 Linux.
  *
  * A problem is always given as its file: edition, scratchpad size, functions, vertices, edges and loops, each number in groups of
- * seven bits, lowest group first. Every function judges the file before anything else. examiner_inline and examiner_write_fields make
- * such a file: from a drawing, one graph a function, and from the problem's numbers.
+ * seven bits, lowest group first. Every function that takes a file judges it before anything else. examiner_inline and
+ * examiner_write_fields make such a file: from a drawing, one graph a function, and from the problem's numbers. examiner_word_refusal,
+ * examiner_word_reason and examiner_read_sentence take no problem and judge none: they turn refusals and reasons into sentences, and
+ * back.
  *
  * A number may be padded with groups of zero, up to five bytes: 5 is 05, or 85 00, or 85 80 80 80 00 (hexadecimal). What a function
  * answers does not depend on it, but for the places of refusals 1 to 5. What is written is always the shortest file with the problem's
@@ -12,15 +14,15 @@
  *
  * RESULTS
  *   Each function returns 0, or the number of a refusal with its place in answer[0]. Places of `answer` that a result does not use
- *   keep their values. On a refusal all other lent memory keeps its values too: `out`, `words`, `held`, examiner_eviction's `walk` and
- *   answer[1] to answer[3].
+ *   keep their values. On a refusal all other lent memory keeps its values too: `out`, `words`, `held`, `text`, examiner_eviction's
+ *   `walk` and answer[1] to answer[3].
  *
  * POINTERS
  *   - A parameter NAME with NAME_length is a slice: a pointer to the first of NAME_length values. `answer`, `held`, `fields` and
  *     `drawing` have a fixed number of places, and are never null.
  *   - A pointer is aligned for its type. It is null only together with length 0.
- *   - No two parameters overlap where one of them is written to (`out`, `words`, `held`, `answer`, and the `walk` of
- *     examiner_eviction).
+ *   - No two parameters overlap where one of them is written to (`out`, `words`, `held`, `answer`, the `walk` of examiner_eviction, and
+ *     the `text` of examiner_word_refusal and examiner_word_reason).
  *   - Nothing is kept after the return, and nothing is allocated. Calls from several threads need no lock as long as nothing writes
  *     to memory that is lent to a call.
  *
@@ -59,6 +61,9 @@
  *    20  LastCalls           a graph's last vertex calls                      place: the lowest function
  *   in the vertex asked for
  *    21  UnknownVertex       not below the number of vertices                 place: its number
+ *   in the text that is read
+ *    22  NoSentence          no sentence of a refusal or a reason             place: the first byte that does not fit, or
+ *                                                                             the length
  */
 #ifndef EXAMINER_H
 #define EXAMINER_H
@@ -107,6 +112,9 @@ extern "C" {
 
 /* No walk that examiner_eviction writes has more entries: a buffer of so many is never too short. */
 #define EXAMINER_MOST_SHOWN 256
+
+/* No sentence has more bytes: a buffer of so many is never too short. */
+#define EXAMINER_MOST_SENTENCE 128
 
 /*
  * Read: judges a problem file.
@@ -267,6 +275,46 @@ typedef char examiner_drawing_has_its_numbers[sizeof(struct examiner_drawing) ==
  * 20; 18; 19; last 10 (bytes needed). Functions that nothing calls are judged too, but only what function 0 reaches counts towards 19.
  */
 uint32_t examiner_inline(const uint32_t *drawing, uint8_t *out, size_t out_length, uint64_t *answer);
+
+/*
+ * Word, for a refusal: writes it as a sentence into `text`, its number first, then what is wrong and what the place is, then the place.
+ * `number` is what a function returned, `place` what it put in answer[0]. 13 at 18 is
+ *
+ *   Refused 13: the layout needs more than the scratchpad; the bytes needed are 18.
+ *
+ * docs/SENTENCES.md has the words of every number. Any place goes with any number. The text is ASCII; no zero byte and no line end
+ * follows it: bytes of `text` past the sentence keep their values.
+ *
+ * On 0: answer[0] the bytes written.
+ * Refusals: 3 at 0 for a number that is no refusal's; then 10 (bytes needed).
+ */
+uint32_t examiner_word_refusal(uint32_t number, uint64_t place, uint8_t *text, size_t text_length, uint64_t *answer);
+
+/*
+ * Word, for a reason of examiner_eviction: writes it as a sentence into `text`. `reason` is its number, and `function`, which is looked
+ * at for reason 1 alone, the function named. They are, with 5 for the function:
+ *
+ *   1  Every visit is charged the load, since its region may have been taken by function 5.
+ *   2  Only a first load is charged, since no other function can have taken its region.
+ *   3  No load is charged, since its function is always in its region.
+ *
+ * The text is ASCII; no zero byte and no line end follows it: bytes of `text` past the sentence keep their values.
+ *
+ * On 0: answer[0] the bytes written.
+ * Refusals: 3 at 0 for a number that is no reason's, or a function above 31; then 10 (bytes needed).
+ */
+uint32_t examiner_word_reason(uint32_t reason, uint64_t function, uint8_t *text, size_t text_length, uint64_t *answer);
+
+/*
+ * Read-sentence: the refusal or the reason whose sentence `text` is, to the last byte. A zero byte or a line end behind the full stop is
+ * one byte too many. Numbers are decimal, with no zero before other digits.
+ *
+ * On 0: answer[0] is 0 for a refusal, with its number in answer[1] and its place in answer[2]; else it is the number of the reason, 1 to
+ * 3 as in examiner_eviction, with the function named in answer[1] for reason 1 alone.
+ * Refusals: 22, placed at the length of the longest front of `text` that some sentence begins with. That is the first byte that fits no
+ * sentence, or the length where all of `text` fits.
+ */
+uint32_t examiner_read_sentence(const uint8_t *text, size_t text_length, uint64_t *answer);
 
 #ifdef __cplusplus
 }
