@@ -93,9 +93,9 @@ fn refusals_have_names_and_numbers() {
         assert_eq!(RefusalKind::from_number(kind.number()), Some(kind));
     }
     assert_eq!(RefusalKind::from_number(0), None);
-    assert_eq!(RefusalKind::from_number(22), None);
+    assert_eq!(RefusalKind::from_number(23), None);
     assert_eq!(examiner::read(&[]), Err(Refusal { number: RefusalKind::EndsEarly, place: 0 }));
-    assert!(examiner::read(&M10[..9]).unwrap_err().to_string().starts_with("refused 1 at 9"));
+    assert_eq!(examiner::read(&M10[..9]).unwrap_err().to_string(), "Refused 1: the file ends before a number does; its length is 9.");
 }
 
 #[test]

@@ -12,7 +12,8 @@ pub struct Eviction {
     pub count: usize,
 }
 
-/// When the load of a vertex is charged.
+/// When the load of a vertex is charged. It displays as its [sentence](crate::word), and is parsed from it; one that has none, since its
+/// function is above 31, displays in its `Debug` form.
 #[derive(Clone, Copy, Debug, PartialEq, Eq, Hash)]
 pub enum Reason {
     /// 1: on every visit, since the vertex is contested. The walk arrives having visited another function of the same region after its
@@ -30,12 +31,27 @@ pub enum Reason {
 impl Eviction {
     /// What an answer tells: the entries written, the reason's number, and for the first reason the function.
     pub(crate) fn told([count, reason, function, _]: [u64; 4]) -> Eviction {
-        let reason = match reason {
+        Eviction { reason: Reason::told(reason, function), count: count as usize }
+    }
+}
+
+impl Reason {
+    /// The reason with a number, and the function for the first.
+    pub(crate) fn told(number: u64, function: u64) -> Reason {
+        match number {
             1 => Reason::EveryVisit { function: function as u8 },
             2 => Reason::FirstLoad,
             3 => Reason::Never,
             _ => unreachable!("the library's reasons have the numbers 1 to 3"),
-        };
-        Eviction { reason, count: count as usize }
+        }
+    }
+
+    /// Its number and its function, which is 0 where there is none.
+    pub(crate) fn numbers(self) -> (u32, u64) {
+        match self {
+            Reason::EveryVisit { function } => (1, u64::from(function)),
+            Reason::FirstLoad => (2, 0),
+            Reason::Never => (3, 0),
+        }
     }
 }

@@ -4,8 +4,9 @@
 //! bounds, function sizes and load costs; a *layout* says which function goes to which region. The examiner names the interference,
 //! prices the reloads and gives a worst-case time, or it refuses with a number and a place.
 //!
-//! Every operation takes the problem as its file, and judges that first; [`inline`] makes such a file from a program drawn function by
-//! function. The code behind this wrapper is proved against its definitions for every input; the wrapper is the only Rust code in between.
+//! An operation on a problem takes it as its file, and judges that first; [`inline`] makes such a file from a program drawn function by
+//! function. [`word`] and [`read_sentence`] take none: they turn a refusal, or the [`Reason`] why a vertex pays its load, into a sentence and
+//! back. The code behind this wrapper is proved against its definitions for every input; the wrapper is the only Rust code in between.
 //!
 //! A number of a file may be padded with groups of zero, up to five bytes: 5 is 05, or 85 00, or 85 80 80 80 00 (hexadecimal). What an operation
 //! answers does not depend on it, but for the places of [`EndsEarly`](RefusalKind::EndsEarly) to [`LeftOver`](RefusalKind::LeftOver). What is
@@ -18,7 +19,9 @@
 //!
 //! let refusal = examiner::read(&[]).unwrap_err();
 //! assert_eq!(refusal.number, examiner::RefusalKind::EndsEarly);
-//! assert_eq!(refusal.to_string(), "refused 1 at 0: the file ends before a number does");
+//! assert_eq!(refusal.to_string(), "Refused 1: the file ends before a number does; its length is 0.");
+//! // the sentence says all of it
+//! assert_eq!("Refused 1: the file ends before a number does; its length is 0.".parse(), Ok(refusal));
 //! # Ok::<(), examiner::Refusal>(())
 //! ```
 
@@ -27,11 +30,13 @@ mod eviction;
 mod fields;
 pub mod raw;
 mod refusal;
+mod sentence;
 
 pub use drawing::{Drawing, DrawnFunction, DrawnVertex};
 pub use eviction::{Eviction, Reason, MOST_SHOWN};
 pub use fields::{Edge, Fields, Function, Loop, Vertex, MOST_EDGES, MOST_FUNCTIONS, MOST_LOOPS, MOST_VERTICES, MOST_VISITS};
 pub use refusal::{Refusal, RefusalKind};
+pub use sentence::{read_sentence, word, Remark, MOST_SENTENCE};
 
 /// The numbers of items in a problem.
 #[derive(Clone, Copy, Debug, PartialEq, Eq, Hash)]
@@ -77,7 +82,7 @@ fn judge(number: u32, answer: Answer) -> Result<Answer, Refusal> {
     if number == 0 {
         return Ok(answer);
     }
-    let number = RefusalKind::from_number(number).expect("the library's refusals have the numbers 1 to 21");
+    let number = RefusalKind::from_number(number).expect("the library's refusals have the numbers 1 to 22");
     Err(Refusal { number, place: answer[0] })
 }
 

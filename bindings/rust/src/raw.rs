@@ -46,4 +46,13 @@ extern "C" {
 
     /// Inline.
     pub fn examiner_inline(drawing: *const u32, out: *mut u8, out_length: usize, answer: *mut u64) -> u32;
+
+    /// Word, for a refusal.
+    pub fn examiner_word_refusal(number: u32, place: u64, text: *mut u8, text_length: usize, answer: *mut u64) -> u32;
+
+    /// Word, for a reason.
+    pub fn examiner_word_reason(reason: u32, function: u64, text: *mut u8, text_length: usize, answer: *mut u64) -> u32;
+
+    /// Read-sentence.
+    pub fn examiner_read_sentence(text: *const u8, text_length: usize, answer: *mut u64) -> u32;
 }

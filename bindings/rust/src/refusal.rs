@@ -1,7 +1,6 @@
 //! Refusals.
 
 use std::error::Error;
-use std::fmt;
 
 /// Why an operation refused. The numbers are those of documents 01 and 02. Of a drawn graph, [`OutOfRange`](RefusalKind::OutOfRange),
 /// [`NotAscending`](RefusalKind::NotAscending) and [`MissingEdge`](RefusalKind::MissingEdge) to [`NoEdgeBack`](RefusalKind::NoEdgeBack)
@@ -52,11 +51,14 @@ pub enum RefusalKind {
     LastCalls = 20,
     /// 21: the vertex asked for is unknown: not below the number of vertices. The place is its number.
     UnknownVertex = 21,
+    /// 22: the text is no sentence of a refusal or a reason. The place is the first byte that does not fit, or the length where all of it
+    /// fits.
+    NoSentence = 22,
 }
 
 impl RefusalKind {
     /// All kinds, by ascending number.
-    pub const ALL: [RefusalKind; 21] = {
+    pub const ALL: [RefusalKind; 22] = {
         use RefusalKind::*;
         [
             EndsEarly,
@@ -80,10 +82,11 @@ impl RefusalKind {
             CountPassed,
             LastCalls,
             UnknownVertex,
+            NoSentence,
         ]
     };
 
-    /// The number of this kind, 1 to 21.
+    /// The number of this kind, 1 to 22.
     pub const fn number(self) -> u32 {
         self as u32
     }
@@ -92,48 +95,15 @@ impl RefusalKind {
     pub fn from_number(number: u32) -> Option<RefusalKind> {
         RefusalKind::ALL.get((number as usize).checked_sub(1)?).copied()
     }
-
-    /// What is wrong, in a few words.
-    pub const fn description(self) -> &'static str {
-        match self {
-            RefusalKind::EndsEarly => "the file ends before a number does",
-            RefusalKind::Misspelt => "a number is misspelt",
-            RefusalKind::OutOfRange => "a number is out of range",
-            RefusalKind::NotAscending => "edges or loops do not ascend",
-            RefusalKind::LeftOver => "bytes are left over",
-            RefusalKind::MissingEdge => "a vertex lacks an edge",
-            RefusalKind::WrongLoop => "a loop crosses another or holds the last vertex",
-            RefusalKind::WrongEdge => "an edge is wrong",
-            RefusalKind::NoEdgeBack => "a loop has no edge back",
-            RefusalKind::BufferTooShort => "the buffer is too short",
-            RefusalKind::LayoutTooLong => "the layout is longer than the list of functions",
-            RefusalKind::UnknownRegion => "a region is above 31",
-            RefusalKind::ScratchpadTooSmall => "the layout needs more than the scratchpad",
-            RefusalKind::BoundTooLarge => "the bound passes the limit",
-            RefusalKind::WrongStep => "the walk does not follow the graph to its last vertex",
-            RefusalKind::BeyondBound => "a stay visits a header beyond its bound",
-            RefusalKind::WalkTooLong => "the walk is too long",
-            RefusalKind::Recursive => "a function can reach itself by calls",
-            RefusalKind::CountPassed => "the drawing makes too large a problem",
-            RefusalKind::LastCalls => "the last vertex of a graph calls",
-            RefusalKind::UnknownVertex => "the vertex is unknown",
-        }
-    }
 }
 
-/// A refusal: why, and where.
+/// A refusal: why, and where. It displays as its [sentence](crate::word), and is parsed from it.
 #[derive(Clone, Copy, Debug, PartialEq, Eq, Hash)]
 pub struct Refusal {
     /// Which of the refusals it is.
     pub number: RefusalKind,
     /// What it counts depends on the kind: see [`RefusalKind`].
     pub place: u64,
-}
-
-impl fmt::Display for Refusal {
-    fn fmt(&self, f: &mut fmt::Formatter<'_>) -> fmt::Result {
-        write!(f, "refused {} at {}: {}", self.number.number(), self.place, self.number.description())
-    }
 }
 
 impl Error for Refusal {}
