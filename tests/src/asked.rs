@@ -4,7 +4,9 @@
 use examiner::raw;
 use reference::fast;
 use reference::problem::{Problem, Refusal};
-use reference::{Drawing, Eviction, Run};
+use reference::{Drawing, Eviction, Remark, Run};
+
+use crate::sentences::{named_reason, named_refusal, plain_remark};
 
 /// What an operation gives, or the number and the place of the refusal.
 pub type Said<T> = Result<T, (u32, u64)>;
@@ -107,4 +109,41 @@ pub fn inline(drawing: &Drawing, length: usize) -> Said<Vec<u8>> {
     assert_eq!(by_reference(fast::inline(&numbers, &mut quick)), said, "{drawing:?}");
     assert_eq!((&plain, &quick), (&out, &out), "{drawing:?}");
     said.map(|bytes| out[..bytes].to_vec())
+}
+
+/// Word by an export into so many bytes, for this remark, if it names one: the bytes written.
+fn worded(remark: Option<Remark>, length: usize, export: impl FnOnce(&mut [u8], *mut u64) -> u32) -> Said<Vec<u8>> {
+    let mut text = vec![0xA5; length];
+    let (mut plain, mut quick, mut answer) = (text.clone(), text.clone(), [0; 4]);
+    let number = export(&mut text, answer.as_mut_ptr());
+    let said = told(number, answer);
+    let unnamed = Err((3, 0));
+    assert_eq!(remark.map_or(unnamed, |remark| by_reference(reference::word(remark, &mut plain))), said, "{remark:?}");
+    assert_eq!(remark.map_or(unnamed, |remark| by_reference(fast::word(remark, &mut quick))), said, "{remark:?}");
+    assert_eq!((&plain, &quick), (&text, &text), "{remark:?}");
+    said.map(|bytes| text[..bytes].to_vec())
+}
+
+/// Word for a refusal into so many bytes: those written.
+pub fn word_refusal(number: u32, place: u64, length: usize) -> Said<Vec<u8>> {
+    // SAFETY: `text` and `answer` are valid for the call, and apart.
+    worded(Some(named_refusal(number, place)), length, |text, answer| unsafe {
+        raw::examiner_word_refusal(number, place, text.as_mut_ptr(), text.len(), answer)
+    })
+}
+
+/// Word for a reason into so many bytes: those written.
+pub fn word_reason(reason: u32, function: u64, length: usize) -> Said<Vec<u8>> {
+    // SAFETY: `text` and `answer` are valid for the call, and apart.
+    worded(named_reason(reason, function), length, |text, answer| unsafe {
+        raw::examiner_word_reason(reason, function, text.as_mut_ptr(), text.len(), answer)
+    })
+}
+
+/// Read-sentence: what it says.
+pub fn read_sentence(text: &[u8]) -> Said<Remark> {
+    let said = by_library(examiner::read_sentence(text)).map(plain_remark);
+    assert_eq!(by_reference(reference::read_sentence(text)), said, "{:?}", String::from_utf8_lossy(text));
+    assert_eq!(by_reference(fast::read_sentence(text)), said, "{:?}", String::from_utf8_lossy(text));
+    said
 }

@@ -28,6 +28,15 @@ pub const READINGS: [&str; 7] = [
     "what the region holds on arrival would be another function",
 ];
 
+/// A reason in the wrapper's form, whose functions have eight bits.
+pub fn wrapped_reason(reason: Reason) -> Option<examiner::Reason> {
+    match reason {
+        Reason::EveryVisit(function) => u8::try_from(function).ok().map(|function| examiner::Reason::EveryVisit { function }),
+        Reason::FirstLoad => Some(examiner::Reason::FirstLoad),
+        Reason::Never => Some(examiner::Reason::Never),
+    }
+}
+
 /// A vertex of a lawful problem with what Eviction says of it.
 pub struct Shown<'a> {
     graph: &'a Searched<'a>,

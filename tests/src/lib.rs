@@ -1,5 +1,5 @@
-//! What the tests and the benchmark share: seeded problems, files, drawings, layouts and walks, lawful and damaged, what they are like, and
-//! operations asked of both implementations.
+//! What the tests and the benchmark share: seeded problems, files, drawings, layouts, walks and sentences, lawful and damaged, what they are
+//! like, and operations asked of both implementations.
 
 pub mod asked;
 pub mod damage;
@@ -10,6 +10,7 @@ pub mod lent;
 pub mod padding;
 pub mod problems;
 pub mod random;
+pub mod sentences;
 pub mod totals;
 pub mod walks;
 

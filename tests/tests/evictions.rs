@@ -2,6 +2,7 @@
 
 use examiner::{eviction, Eviction, Reason, Refusal, RefusalKind, MOST_SHOWN};
 use examiner_tests::damage::file_of;
+use examiner_tests::evictions::wrapped_reason;
 use reference::examples::{evictions, longest_shown, p, r, WorkedEviction};
 
 fn refused(number: RefusalKind, place: u64) -> Result<Eviction, Refusal> {
@@ -17,11 +18,7 @@ fn asked(file: &[u8], layout: &[u8], vertex: u64, entries: usize) -> (Result<Evi
 #[test]
 fn worked_evictions_are_as_they_are_written() {
     for WorkedEviction { what, problem, layout, vertex, reason, walk } in evictions() {
-        let reason = match reason {
-            reference::Reason::EveryVisit(function) => Reason::EveryVisit { function: function as u8 },
-            reference::Reason::FirstLoad => Reason::FirstLoad,
-            reference::Reason::Never => Reason::Never,
-        };
+        let reason = wrapped_reason(reason).expect("functions are below 32");
         let (answer, after) = asked(&file_of(&problem), &layout, u64::from(vertex), MOST_SHOWN);
         assert_eq!(answer, Ok(Eviction { reason, count: walk.len() }), "{what}, vertex {vertex}");
         let kept = vec![77; MOST_SHOWN - walk.len()];

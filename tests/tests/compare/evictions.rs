@@ -1,7 +1,7 @@
 //! Eviction: every vertex of the compared problems, into buffers of every kind of length, and vertices that there are none of.
 
 use super::*;
-use examiner_tests::evictions::{Shown, NEVER_OF_COLD, READINGS, REASONS, SHAPES};
+use examiner_tests::evictions::{wrapped_reason, Shown, NEVER_OF_COLD, READINGS, REASONS, SHAPES};
 use examiner_tests::problems::braided;
 use reference::eviction::{self, Eviction, Reason, Searched};
 use reference::examples::{evictions, longest_shown};
@@ -49,11 +49,7 @@ fn values(told: Eviction) -> Vec<u64> {
 
 /// An eviction in the wrapper's form.
 fn wrapped(told: Eviction) -> examiner::Eviction {
-    let reason = match told.reason {
-        Reason::EveryVisit(function) => examiner::Reason::EveryVisit { function: function as u8 },
-        Reason::FirstLoad => examiner::Reason::FirstLoad,
-        Reason::Never => examiner::Reason::Never,
-    };
+    let reason = wrapped_reason(told.reason).expect("functions are below 32");
     examiner::Eviction { reason, count: told.count }
 }
 
