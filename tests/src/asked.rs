@@ -4,7 +4,7 @@
 use examiner::raw;
 use reference::fast;
 use reference::problem::{Problem, Refusal};
-use reference::{Drawing, Eviction, Remark, Run};
+use reference::{Drawing, Eviction, Reason, Remark, Run};
 
 use crate::sentences::{named_reason, named_refusal, plain_remark};
 
@@ -138,6 +138,16 @@ pub fn word_reason(reason: u32, function: u64, length: usize) -> Said<Vec<u8>> {
     worded(named_reason(reason, function), length, |text, answer| unsafe {
         raw::examiner_word_reason(reason, function, text.as_mut_ptr(), text.len(), answer)
     })
+}
+
+/// Word for any remark into so many bytes: those written.
+pub fn word(remark: Remark, length: usize) -> Said<Vec<u8>> {
+    match remark {
+        Remark::Refused(Refusal { number, place }) => word_refusal(u32::from(number), place, length),
+        Remark::Explained(Reason::EveryVisit(function)) => word_reason(1, u64::from(function), length),
+        Remark::Explained(Reason::FirstLoad) => word_reason(2, 0, length),
+        Remark::Explained(Reason::Never) => word_reason(3, 0, length),
+    }
 }
 
 /// Read-sentence: what it says.
