@@ -273,12 +273,15 @@ fn the_library_the_header_and_the_wrapper_have_the_same_limits() {
         ("EDGES", examiner::MOST_EDGES),
         ("LOOPS", examiner::MOST_LOOPS),
         ("VISITS", examiner::MOST_VISITS as usize),
+        ("SENTENCE", examiner::MOST_SENTENCE),
     ];
     for (name, most) in limits {
         assert_eq!((in_header(name), in_source(name)), (Some(most), Some(most)), "MOST_{name} of the header and of the library");
     }
     // the library has it as a definition, of which the code makes no use
     assert_eq!(in_header("SHOWN"), Some(examiner::MOST_SHOWN));
+    // the header has it as the last row of a table
+    assert_eq!(number_behind(&source, "pub const LAST_REFUSAL: u32 = ", ";"), Some(RefusalKind::ALL.len()));
 }
 
 /// The crates that a crate stands on, itself first, with the libraries of the kit that each uses.
