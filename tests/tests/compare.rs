@@ -1,4 +1,4 @@
-//! The library held to the independent implementation on seeded problems, drawings, layouts and walks, lawful and damaged.
+//! The library held to the independent implementation on seeded problems, drawings, layouts, walks and sentences, lawful and damaged.
 //!
 //! Each call goes through the exports themselves, with guards around all lent memory, and through the safe wrapper. The returned
 //! number, the place, the results and every byte of lent memory, guards and inputs included, must be what the documents say.
@@ -12,6 +12,8 @@ mod evictions;
 mod loop_bounds;
 #[path = "compare/padding.rs"]
 mod padding;
+#[path = "compare/sentences.rs"]
+mod sentences;
 
 use std::collections::BTreeMap;
 use std::panic::{catch_unwind, AssertUnwindSafe};
@@ -32,7 +34,7 @@ use reference::file::{spell, LONGEST};
 use reference::layout::{check, filled};
 use reference::longest::by_states;
 use reference::problem::*;
-use reference::{stack, Drawing, DrawnFunction, DrawnVertex, Run, Totals};
+use reference::{stack, Drawing, DrawnFunction, DrawnVertex, Remark, Run, Totals};
 
 const SHORT: &str = "an accepted layout that is short";
 const SHORT_WITH_GAP: &str = "an accepted layout that is short, with a gap below a listed region";
@@ -90,7 +92,7 @@ struct Comparison {
     /// Calls of each export.
     calls: BTreeMap<&'static str, usize>,
     /// Refusals by number; at 0 the calls that were not refused.
-    met: [usize; 22],
+    met: [usize; 23],
     /// Cases worth counting.
     seen: BTreeMap<&'static str, usize>,
     /// What was asked last, to be shown where the two differ.
@@ -106,6 +108,8 @@ struct Asked {
     vertex: Option<u64>,
     fields: Vec<u32>,
     drawing: Vec<(DrawnFunction, Counts)>,
+    remark: Option<Remark>,
+    text: Vec<u8>,
 }
 
 impl Asked {
@@ -118,6 +122,8 @@ impl Asked {
         for (function, drawn) in self.drawing.iter().enumerate() {
             eprintln!("drawn   {function}: {drawn:?}");
         }
+        eprintln!("remark  {:?}", self.remark);
+        eprintln!("text    \"{}\"", self.text[..self.text.len().min(500)].escape_ascii());
     }
 }
 
@@ -131,7 +137,7 @@ fn plain<T>(result: Result<T, examiner::Refusal>) -> Result<T, Refusal> {
 
 impl Comparison {
     fn new() -> Comparison {
-        Comparison { random: Random::seeded(0), calls: BTreeMap::new(), met: [0; 22], seen: BTreeMap::new(), asked: Asked::default() }
+        Comparison { random: Random::seeded(0), calls: BTreeMap::new(), met: [0; 23], seen: BTreeMap::new(), asked: Asked::default() }
     }
 
     fn saw(&mut self, what: &'static str, it: bool) {
@@ -1060,13 +1066,16 @@ fn empty_slices(c: &mut Comparison) {
         c.call("examiner_eviction", &Ok(vec![0, 3]), |answer| {
             raw::examiner_eviction(file.as_ptr(), size, regions, 3, 2, null_mut(), 0, answer)
         });
+        c.call("examiner_word_refusal", &refused(10, 79), |answer| raw::examiner_word_refusal(13, 18, null_mut(), 0, answer));
+        c.call("examiner_word_reason", &refused(10, 63), |answer| raw::examiner_word_reason(3, 0, null_mut(), 0, answer));
+        c.call("examiner_read_sentence", &refused(22, 0), |answer| raw::examiner_read_sentence(null(), 0, answer));
     }
 }
 
 fn main() {
     let mut comparison = Comparison::new();
     type Group = fn(&mut Comparison);
-    // the quick ones first, of files and of drawings; then the two totals, evictions, padded files, and bounds of loops
+    // the quick ones first, of files and of drawings; then the two totals, evictions, padded files, bounds of loops, and sentences
     let groups: &[(&str, Group)] = &[
         ("empty slices", empty_slices),
         ("random small graphs", any_small_graph),
@@ -1094,6 +1103,10 @@ fn main() {
         ("spoilt padded files", padding::spoilt_padded_files),
         ("loop bounds", loop_bounds::loop_bounds),
         ("long stays", loop_bounds::long_stays),
+        ("worded remarks", sentences::worded_remarks),
+        ("bytes of sentences", sentences::bytes_of_sentences),
+        ("odd sentences", sentences::odd_sentences),
+        ("random texts", sentences::random_texts),
     ];
     for (index, (name, group)) in groups.iter().enumerate() {
         let started = Instant::now();
@@ -1129,8 +1142,9 @@ fn main() {
     }
     let refused_drawings = DRAWING_REFUSED.map(|(_, what)| (what, LEAST_REFUSED));
     let least = LEAST.into_iter().chain(refused_drawings).chain(least_of_totals());
-    for (what, least) in least.chain(evictions::least()).chain(padding::least()).chain(loop_bounds::LEAST) {
+    let least = least.chain(evictions::least()).chain(padding::least()).chain(loop_bounds::LEAST).chain(sentences::least());
+    for (what, least) in least {
         assert!(comparison.seen[what] >= least, "there was too seldom {what}");
     }
-    println!("\n{} calls agree; every refusal from 1 to 21 was met", comparison.calls.values().sum::<usize>());
+    println!("\n{} calls agree; every refusal from 1 to 22 was met", comparison.calls.values().sum::<usize>());
 }
