@@ -1,6 +1,7 @@
 //! The library against the quickest honest methods of the independent implementation, in one run.
 //!
-//! Both start from the bytes of the file, or the numbers of the drawing, at each call, on the same inputs, in turns. Build it for release.
+//! Both start from the bytes of the file, the numbers of the drawing, the remark or the text at each call, on the same inputs, in turns. Build
+//! it for release.
 
 use std::hint::black_box;
 use std::time::{Duration, Instant};
@@ -11,6 +12,7 @@ use examiner_tests::evictions::{Shown, REASONS};
 use examiner_tests::padding::in_five_bytes;
 use examiner_tests::problems::{lawful, Amounts, Plan};
 use examiner_tests::random::Random;
+use examiner_tests::sentences::{bytes_of, plain_remark, refused, wrapped_remark};
 use examiner_tests::walks;
 use reference::drawing::Numbers;
 use reference::eviction::Searched;
@@ -19,7 +21,7 @@ use reference::fast;
 use reference::file::LONGEST;
 use reference::layout::check;
 use reference::problem::*;
-use reference::{Drawing, DrawnFunction};
+use reference::{Drawing, DrawnFunction, Reason, Remark};
 
 /// Turns that each of the two takes; the median counts.
 const TURNS: usize = 201;
@@ -229,6 +231,25 @@ fn eviction(subject: &Subject, vertex: u32) -> Times {
     measure(&mut library, &mut || _ = black_box(fast::eviction(black_box(file), black_box(layout), vertex, black_box(&mut reference_walk))))
 }
 
+fn word(remark: Remark) -> Times {
+    let wrapped = wrapped_remark(remark).expect("in range");
+    let mut library_text = [0; examiner::MOST_SENTENCE];
+    let mut reference_text = library_text;
+    let written = examiner::word(wrapped, &mut library_text).expect("room enough");
+    assert_eq!(fast::word(remark, &mut reference_text), Ok(written));
+    assert_eq!(library_text, reference_text);
+    let mut library = || _ = black_box(examiner::word(black_box(wrapped), black_box(&mut library_text)));
+    measure(&mut library, &mut || _ = black_box(fast::word(black_box(remark), black_box(&mut reference_text))))
+}
+
+fn read_sentence(remark: Remark) -> Times {
+    let text = &bytes_of(remark)[..];
+    assert_eq!(examiner::read_sentence(text).map(plain_remark), Ok(remark));
+    assert_eq!(fast::read_sentence(text), Ok(remark));
+    let mut library = || _ = black_box(examiner::read_sentence(black_box(text)));
+    measure(&mut library, &mut || _ = black_box(fast::read_sentence(black_box(text))))
+}
+
 /// By what part the library's Bound takes longer where the regions are filled in than where the same regions are listed. It is small beside
 /// the spread of the times, so each turn is taken by itself; it may come out negative.
 fn filling(short: &Subject, listed: &Subject) -> f64 {
@@ -293,6 +314,20 @@ fn rows_of_the_longest_walk() {
     row("Eviction", &subject, eviction(&subject, vertex), |_, _| format!("{}, by {} entries", REASONS[0], walk.len()));
 }
 
+/// Word and Read-sentence of the longest sentence, which is a refusal's, and of a reason.
+fn rows_of_sentences() {
+    println!("\n| operation | sentence | library | reference | ratio | |");
+    println!("|---|---|---|---|---|---|");
+    let sentences = [("a refusal", refused(15, u64::MAX)), ("a reason", Remark::Explained(Reason::EveryVisit(31)))];
+    for (operation, measured) in [("Word", word as fn(Remark) -> Times), ("Read-sentence", read_sentence)] {
+        for (name, remark) in sentences {
+            let times = measured(remark);
+            let note = format!("{} bytes: {:.0} ns, reference {:.0}", bytes_of(remark).len(), times.0 * 1e9, times.1 * 1e9);
+            named_row(operation, name, times, &note);
+        }
+    }
+}
+
 fn cell((library, reference): Times) -> String {
     format!("{} ({:.2})", micros(library), library / reference)
 }
@@ -303,7 +338,8 @@ fn main() {
     }
     println!("Median of {TURNS} turns of at least {} µs each, the two in turns; one thread.", TURN.as_micros());
     println!("The reference is the independent implementation by its quickest methods, built for release.");
-    println!("Every call starts from the bytes of the problem file, or the numbers of the drawing. Buffers are not cleared between repetitions.\n");
+    println!("Every call starts from the bytes of the problem file, the numbers of the drawing, the remark or the text.");
+    println!("Buffers are not cleared between repetitions.\n");
 
     let full = |problem: &Problem| problem.edges.len() == MOST_EDGES;
     let long = |problem: &Problem| full(problem) && long_walk(problem).is_some();
@@ -343,6 +379,8 @@ fn main() {
     for sketch in [full_graphs(), four_graphs()] {
         row_of_a_drawing(&sketch);
     }
+
+    rows_of_sentences();
 
     println!("\nHow the library's cost grows; in brackets its ratio to the reference.\n");
     println!("| functions | vertices | edges | loops | Read | Interference | Bound |");
