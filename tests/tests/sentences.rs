@@ -31,7 +31,7 @@ fn other_texts_are_22_at_the_first_byte_that_does_not_fit() {
         assert_eq!(read_sentence(text.as_bytes()), Err((22, place)), "{text:?}");
     }
     assert_eq!(read_sentence(b"Refused 13\0"), Err((22, 10)));
-    assert_eq!(read_sentence(&[b'R', 0xE9]), Err((22, 1)));
+    assert_eq!(read_sentence(&[b'R', b'e' | 0x80]), Err((22, 1)));
 }
 
 /// What stands in docs/SENTENCES.md.
