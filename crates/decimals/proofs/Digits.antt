@@ -31,7 +31,7 @@ fuel (suc k) (suc j) n s a b =
     by-less (λ x. x ≡ digitsOf (suc j) n s) n 10 (λ h. simp (lt-ltb n 10 h))
     (λ h. rw (le-ltb n 10 h) (fuel k j (n / 10) ((48 + n % 10) ∷ s) (omega arith) (omega arith)))
 
-front : (n : ℕ) (t : List ℕ) → decimal n ++ t ≡ digitsOf n n t
+pub front : (n : ℕ) (t : List ℕ) → decimal n ++ t ≡ digitsOf n n t
 unfolding decimal
 front n t = digits-onto n n [] t
 
@@ -56,12 +56,20 @@ short-size n h = ap length (short n h)
 pub long-size : (n : ℕ) → 10 ≤ n → length (decimal n) ≡ length (decimal (n / 10)) + 1
 long-size n h = ap length (long n h) ∙ length-append (decimal (n / 10)) ((48 + n % 10) ∷ [])
 
--- A number below 10^k has at most k digits, and one digit at least.
+-- A number below 10^k has at most k digits, and one from 10^k on has more.
 pub few-digits : (k n : ℕ) → n < 10 ^ suc k → length (decimal n) ≤ suc k
 few-digits zero n h = omega (arith, short-size n (omega arith))
 few-digits (suc k) n h =
     by-order n 10 (λ small. omega (arith, short-size n small))
     (λ large. omega (arith, long-size n large, few-digits k (n / 10) (omega arith)))
+
+power : (k : ℕ) → 1 ≤ 10 ^ k
+power zero = omega arith
+power (suc k) = omega (arith, power k)
+
+pub many-digits : (k n : ℕ) → 10 ^ k ≤ n → k < length (decimal n)
+many-digits zero n h = by-order n 10 (λ small. omega (arith, short-size n small)) (λ large. omega (arith, long-size n large))
+many-digits (suc k) n h = omega (arith, long-size n (omega (arith, power k)), many-digits k (n / 10) (omega arith))
 
 pub word-digits : (n : ℕ) → n < 2 ^ 64 → length (decimal n) ≤ mostDigits
 word-digits n h = few-digits (mostDigits - 1) n (omega arith)

@@ -11,6 +11,8 @@ use Rattle.model.specs.declared.Refusal.{Refusal}
 use Rattle.model.specs.declared.Refusal.the-variants.{OutOfRange, BufferTooShort, NoSentence}
 use Rattle.model.specs.declared.Reason.{Reason}
 use Rattle.model.specs.declared.Reason.the-variants.{EveryVisit, FirstLoad, Never}
+use Rattle.model.specs.declared.Verdict.{Verdict}
+use Rattle.model.specs.declared.Verdict.the-variants as verdict
 use Rattle.model.specs.declared.Remark.{Remark}
 use Rattle.model.specs.declared.Remark.the-variants as remark
 use Rattle.model.specs.declared.WordAnswer.{WordAnswer}
@@ -19,6 +21,7 @@ use Rattle.model.specs.declared.SentenceAnswer.{SentenceAnswer}
 use Rattle.model.specs.declared.SentenceAnswer.the-variants as read
 use Rattle.model.specs.Refusals.{number, place}
 use Rattle.model.specs.Places.{mostFunctions}
+use Rattle.model.specs.Graph.{andThen}
 use Rattle.model.specs.Decimals.{text, decimal}
 
 -- What is wrong and what the place is, for each refusal in the order of their numbers. No phrase has a digit.
@@ -80,11 +83,18 @@ Wordable r = wordable r ≡ true
 
 -- **Word** into a buffer of `room` bytes: 3, the reason names a function above 31 (a place of 64 bits is in range); then 10, the buffer is too short (bytes
 -- needed).
-abbrev pub wordSized : ℕ → ℕ → WordAnswer
-wordSized need room = cond (ltb room need) (word.Refused (BufferTooShort need)) (word.Worded need)
+abbrev pub judgeRemark : Remark → Verdict
+judgeRemark r = cond (wordable r) verdict.Accepted (verdict.Refused (OutOfRange 0))
+
+abbrev pub judgeRoom : ℕ → ℕ → Verdict
+judgeRoom need room = cond (ltb room need) (verdict.Refused (BufferTooShort need)) verdict.Accepted
+
+abbrev pub wordVerdict : Verdict → ℕ → WordAnswer
+wordVerdict verdict.Accepted need = word.Worded need
+wordVerdict (verdict.Refused f) need = word.Refused f
 
 unfoldable pub wordRemark : Remark → ℕ → WordAnswer
-wordRemark r room = cond (wordable r) (wordSized (length (sentence r)) room) (word.Refused (OutOfRange 0))
+wordRemark r room = wordVerdict (andThen (judgeRemark r) (judgeRoom (length (sentence r)) room)) (length (sentence r))
 
 -- What the buffer holds afterwards: the sentence, and past it what it held; on a refusal all that it held.
 abbrev pub afterWord : WordAnswer → Remark → List ℕ → List ℕ

@@ -1,0 +1,3 @@
+pub mod Tests
+pub mod Reading
+pub mod Pieces

@@ -1,0 +1,1 @@
+// Word and Read-sentence.
