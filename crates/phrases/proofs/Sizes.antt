@@ -11,9 +11,7 @@ use borrow.Author.Tests.{leb-true}
 use Rattle.model.specs.Decimals.{text}
 use Rattle.model.specs.Sentences.{phrases, phrase}
 use Rattle.model.proofs.Cases.{and-left, and-right}
-
-abbrev pub mostPhrase : ℕ
-mostPhrase = 73
+use Rattle.phrases.specs.Joined.{mostPhrase}
 
 -- One computed test.
 abbrev allShort : List String → Bool

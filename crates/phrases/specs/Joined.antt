@@ -19,3 +19,7 @@ joined = join phrases
 
 unfoldable pub starts : List ℕ
 starts = startsFrom 0 phrases
+
+-- No phrase has more bytes.
+abbrev pub mostPhrase : ℕ
+mostPhrase = 73

@@ -15,7 +15,7 @@ use Rattle.pieces.specs.declared.Words.the-variants.{Passed, Stopped}
 use Rattle.pieces.specs.declared.Digits.the-variants.{Value, Nothing}
 use Rattle.pieces.specs.Pieces.{passWords, found, readValue}
 
-drop-end : (s : List ℕ) (j : ℕ) → length s ≤ j → drop j s ≡ []
+pub drop-end : (s : List ℕ) (j : ℕ) → length s ≤ j → drop j s ≡ []
 drop-end [] zero h = refl
 drop-end [] (suc j) h = refl
 drop-end (c ∷ s) zero h = absurd (omega arith)

@@ -17,7 +17,7 @@ use Rattle.model.specs.Sentences.{phrase, sentence, mostPlace, Wordable}
 use Rattle.model.proofs.Refusals.{known, number-is, place-is}
 use Rattle.grammar.specs.Grammar.{Grammar, dead, done, value, texts, either, Spells, Plain, Good}
 use Rattle.grammar.proofs.Texts.{texts-spell, spell-texts, texts-plain, whole-spell, spell-whole, value-spell, spell-value, first-spell, whole-first, other-spell, Split, spell-either, spell-end, Live, done-live, texts-live, value-live, either-live}
-use Rattle.sentences.specs.Remarks.{refusing, everyVisit, firstLoad, never, afterPlace, afterNumber, afterFunction, fixed, reasons, remarks}
+use Rattle.sentences.specs.Remarks.{refusing, everyVisit, firstLoad, never, afterPlace, afterNumber, afterFunction, last, fixed, reasons, remarks}
 
 -- ---- every turn of the grammar leads to some sentence
 
@@ -89,7 +89,7 @@ spelt-visit r t x = other-spell refusing _ _ (everyVisit ++ t) r (λ q. let z = 
 spelt-first : Spells remarks firstLoad (remark.Explained FirstLoad)
 unfolding remarks text
 spelt-first =
-    let here = whole-first firstLoad (remark.Explained FirstLoad) (either never (done (remark.Explained Never)) dead) in
+    let here = whole-first firstLoad (remark.Explained FirstLoad) last in
     other-spell refusing _ _ firstLoad _ (λ q. let z = q in omega arith) (other-spell everyVisit _ _ firstLoad _ (λ q. let z = q in omega arith) here)
 
 spelt-never : Spells remarks never (remark.Explained Never)
@@ -147,17 +147,17 @@ pub told : (s : List ℕ) (r : Remark) → Spells remarks s r → Is s r
 unfolding remarks sentence Spells
 told s r x = refused (spell-either refusing (value 1 lastRefusal afterNumber) reasons s r x)
   where
-    last : Split never (done (remark.Explained Never)) dead s r → Is s r
-    last (inl (t, e, y)) = told-whole s t (remark.Explained Never) r refl e y
-    last (inr y) = absurd y
+    final : Split never (done (remark.Explained Never)) dead s r → Is s r
+    final (inl (t, e, y)) = told-whole s t (remark.Explained Never) r refl e y
+    final (inr y) = absurd y
 
-    first : Split firstLoad (done (remark.Explained FirstLoad)) (either never (done (remark.Explained Never)) dead) s r → Is s r
+    first : Split firstLoad (done (remark.Explained FirstLoad)) last s r → Is s r
     first (inl (t, e, y)) = told-whole s t (remark.Explained FirstLoad) r refl e y
-    first (inr y) = last (spell-either never (done (remark.Explained Never)) dead s r y)
+    first (inr y) = final (spell-either never (done (remark.Explained Never)) dead s r y)
 
     visited : Split everyVisit (value 0 (mostFunctions - 1) afterFunction) fixed s r → Is s r
     visited (inl (t, e, y)) = told-visit s t r e y
-    visited (inr y) = first (spell-either firstLoad (done (remark.Explained FirstLoad)) (either never (done (remark.Explained Never)) dead) s r y)
+    visited (inr y) = first (spell-either firstLoad (done (remark.Explained FirstLoad)) last s r y)
 
     refused : Split refusing (value 1 lastRefusal afterNumber) reasons s r → Is s r
     refused (inl (t, e, y)) = told-refusal s t r e y

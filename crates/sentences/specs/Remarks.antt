@@ -11,6 +11,8 @@ use Rattle.model.specs.Refusals.{lastRefusal, refusalOf}
 use Rattle.model.specs.Places.{mostFunctions}
 use Rattle.model.specs.Decimals.{text}
 use Rattle.model.specs.Sentences.{phrase, mostPlace}
+use Rattle.pieces.specs.declared.Words.{Words}
+use Rattle.pieces.specs.declared.Words.the-variants.{Passed, Stopped}
 use Rattle.grammar.specs.Grammar.{Grammar, dead, done, value, texts, either, Out, Meant, Stuck}
 
 -- How sentences open, or whole ones.
@@ -38,8 +40,11 @@ unfoldable pub afterFunction : ℕ → Grammar Remark
 afterFunction g = texts (text ".") (done (remark.Explained (EveryVisit g)))
 
 -- The four openings have different first bytes.
+abbrev pub last : Grammar Remark
+last = either never (done (remark.Explained Never)) dead
+
 abbrev pub fixed : Grammar Remark
-fixed = either firstLoad (done (remark.Explained FirstLoad)) (either never (done (remark.Explained Never)) dead)
+fixed = either firstLoad (done (remark.Explained FirstLoad)) last
 
 abbrev pub reasons : Grammar Remark
 reasons = either everyVisit (value 0 (mostFunctions - 1) afterFunction) fixed
@@ -51,3 +56,8 @@ remarks = either refusing (value 1 lastRefusal afterNumber) reasons
 abbrev pub answerOf : Out Remark → SentenceAnswer
 answerOf (Meant r) = read.Meant r
 answerOf (Stuck k) = read.Refused (NoSentence k)
+
+-- How far words went.
+abbrev pub stopOf : Words → ℕ
+stopOf (Passed at) = at
+stopOf (Stopped at) = at
