@@ -6,15 +6,19 @@ use model::InterferenceAnswer;
 use model::Numbers;
 use model::Reason;
 use model::Refusal;
+use model::Remark;
 use model::RunAnswer;
+use model::SentenceAnswer;
+use model::WordAnswer;
 use model::WriteAnswer;
 use model::places;
+ghost use Prim.Native.Nat.{_<_};
 ghost use mathlib.Core.Path.{_≡_};
 ghost use mathlib.Core.List.{[], _∷_};
 ghost use lib.Seq.{sets};
 ghost use Rattle.model.specs.Numbers.{problemOf};
 ghost use Rattle.model.specs.Evictions.{reasonNumber, reasonValues};
-ghost use Rattle.model.specs.Outcomes.{Results, refusalOutcome, writeOutcome, interferenceOutcome, boundOutcome, runOutcome, evictionOutcome};
+ghost use Rattle.model.specs.Outcomes.{Results, refusalOutcome, writeOutcome, interferenceOutcome, boundOutcome, runOutcome, evictionOutcome, wordOutcome, remarkValues, sentenceOutcome};
 ghost use Rattle.outcomes.specs.Outcomes.{status, answerAfter, counts};
 
 // What a caller lends for the numbers of an answer.
@@ -110,20 +114,21 @@ pub fn tell_ran(ran: RunAnswer, answer: &mut Answer) -> u32
     }
 }
 
-// Tells a reason, from answer[1] on: its number, and the function that it names.
-fn tell_reason(reason: Reason, answer: &mut Answer)
-    ensures { λ _. ⌜ now (answer .exit) ≡ sets (now (answer .entry)) 1 (reasonNumber reason ∷ reasonValues reason) ⌝ }
+// Tells a reason, from a place of `answer` on: its number, and the function that it names.
+fn tell_reason(reason: Reason, at: usize, answer: &mut Answer)
+    requires { ⌜ at < 3 ⌝ }
+    ensures { λ _. ⌜ now (answer .exit) ≡ sets (now (answer .entry)) at (reasonNumber reason ∷ reasonValues reason) ⌝ }
 {
     match reason {
         Reason::EveryVisit(function) => {
-            answer[1] = 1;
-            answer[2] = function as u64;
+            answer[at] = 1;
+            answer[at + 1] = function as u64;
         }
         Reason::FirstLoad => {
-            answer[1] = 2;
+            answer[at] = 2;
         }
         Reason::Never => {
-            answer[1] = 3;
+            answer[at] = 3;
         }
     }
 }
@@ -137,7 +142,47 @@ pub fn tell_evicted(evicted: EvictionAnswer, answer: &mut Answer) -> u32
         EvictionAnswer::Shown(eviction) => {
             let reason = eviction.reason;
             answer[0] = eviction.count as u64;
-            tell_reason(reason, answer);
+            tell_reason(reason, 1, answer);
+            0
+        }
+    }
+}
+
+// Tells what Word gave.
+pub fn tell_worded(worded: WordAnswer, answer: &mut Answer) -> u32
+    ensures { λ r. ⌜ r ≡ status (wordOutcome worded) ⌝ ∗ ⌜ now (answer .exit) ≡ answerAfter (wordOutcome worded) (now (answer .entry)) ⌝ }
+{
+    match worded {
+        WordAnswer::Refused(refusal) => refuse(refusal, answer),
+        WordAnswer::Worded(bytes) => {
+            answer[0] = bytes as u64;
+            0
+        }
+    }
+}
+
+// Tells a remark: 0, and the refusal's number and its place; or the reason's number, and the function that it names.
+fn tell_remark(remark: Remark, answer: &mut Answer)
+    ensures { λ _. ⌜ now (answer .exit) ≡ sets (now (answer .entry)) 0 (remarkValues remark) ⌝ }
+{
+    match remark {
+        Remark::Refused(refusal) => {
+            answer[0] = 0;
+            answer[1] = model::number_of(refusal) as u64;
+            answer[2] = model::place_of(refusal);
+        }
+        Remark::Explained(reason) => tell_reason(reason, 0, answer),
+    }
+}
+
+// Tells what Read-sentence gave.
+pub fn tell_sentence(read: SentenceAnswer, answer: &mut Answer) -> u32
+    ensures { λ r. ⌜ r ≡ status (sentenceOutcome read) ⌝ ∗ ⌜ now (answer .exit) ≡ answerAfter (sentenceOutcome read) (now (answer .entry)) ⌝ }
+{
+    match read {
+        SentenceAnswer::Refused(refusal) => refuse(refusal, answer),
+        SentenceAnswer::Meant(remark) => {
+            tell_remark(remark, answer);
             0
         }
     }
