@@ -1,5 +1,8 @@
 // The library for C and Rust callers: an operation an export. Each answers 0, or the refusal's number with its place in answer[0].
 use model::Drawing;
+use model::Reason;
+use model::Refusal;
+use model::Remark;
 use model::Verdict;
 use model::limits;
 use model::places;
@@ -8,7 +11,9 @@ ghost use mathlib.Core.Path.{_≡_};
 ghost use lib.ListN.{length};
 ghost use Rattle.model.specs.Operations.{writtenBuffer};
 ghost use Rattle.outcomes.specs.Outcomes.{status, answerAfter, Right};
-ghost use Rattle.examiner.specs.Exports.{readTold, writeTold, writeOut, fieldsProblem, fieldsTold, InterferenceTold, BoundTold, runTold, runHeld, inlineTold, inlineOut, EvictionTold};
+ghost use Rattle.examiner.specs.Exports.{readTold, writeTold, writeOut, fieldsProblem, fieldsTold, InterferenceTold, BoundTold, runTold, runHeld, inlineTold, inlineOut, EvictionTold, refusalTold, refusalText, reasonTold, reasonText};
+ghost use Rattle.model.specs.Sentences.{wordedBuffer};
+ghost use Rattle.model.specs.Outcomes.{wordSays, Understood};
 
 // **Read**: the numbers of functions, vertices, edges and loops.
 #[no_mangle]
@@ -140,4 +145,66 @@ pub extern "C" fn examiner_eviction(
     };
     let evicted = eviction::eviction_checked(&numbers, layout, vertex, walk);
     outcomes::tell_evicted(evicted, answer)
+}
+
+// Words a remark, and tells the bytes written.
+fn word_told(remark: Remark, text: &mut [u8], answer: &mut Answer) -> u32
+    ensures { λ r. ⌜ r ≡ status (wordSays remark (length (now (text .entry)))) ⌝ }
+    ensures { λ r. ⌜ now (answer .exit) ≡ answerAfter (wordSays remark (length (now (text .entry)))) (now (answer .entry)) ⌝ }
+    ensures { λ r. ⌜ now (text .exit) ≡ wordedBuffer remark (now (text .entry)) ⌝ }
+{
+    outcomes::tell_worded(sentences::word(remark, text), answer)
+}
+
+// **Word** of the refusal with a number and a place: the bytes written, and the sentence in `text`. A number that is no refusal's is 3 at 0.
+#[no_mangle]
+pub extern "C" fn examiner_word_refusal(
+    number: u32,
+    place: u64,
+    text: &mut [u8],
+    answer: &mut Answer,
+) -> u32
+    ensures { λ r. ⌜ r ≡ status (refusalTold number place (length (now (text .entry)))) ⌝ }
+    ensures { λ r. ⌜ now (answer .exit) ≡ answerAfter (refusalTold number place (length (now (text .entry)))) (now (answer .entry)) ⌝ }
+    ensures { λ r. ⌜ now (text .exit) ≡ refusalText number place (now (text .entry)) ⌝ }
+{
+    if number < 1 {
+        return outcomes::refuse(Refusal::OutOfRange(0), answer);
+    }
+    if limits::LAST_REFUSAL < number {
+        return outcomes::refuse(Refusal::OutOfRange(0), answer);
+    }
+    let refusal = model::refusal_of(number, place);
+    word_told(Remark::Refused(refusal), text, answer)
+}
+
+// **Word** of the reason with a number, which names a function if it is 1: the bytes written, and the sentence in `text`. A number that is no reason's is 3 at 0.
+#[no_mangle]
+pub extern "C" fn examiner_word_reason(
+    reason: u32,
+    function: u64,
+    text: &mut [u8],
+    answer: &mut Answer,
+) -> u32
+    ensures { λ r. ⌜ r ≡ status (reasonTold reason function (length (now (text .entry)))) ⌝ }
+    ensures { λ r. ⌜ now (answer .exit) ≡ answerAfter (reasonTold reason function (length (now (text .entry)))) (now (answer .entry)) ⌝ }
+    ensures { λ r. ⌜ now (text .exit) ≡ reasonText reason function (now (text .entry)) ⌝ }
+{
+    match reason {
+        1 => {
+            let visit = Reason::EveryVisit(function as usize);
+            word_told(Remark::Explained(visit), text, answer)
+        }
+        2 => word_told(Remark::Explained(Reason::FirstLoad), text, answer),
+        3 => word_told(Remark::Explained(Reason::Never), text, answer),
+        _ => outcomes::refuse(Refusal::OutOfRange(0), answer),
+    }
+}
+
+// **Read-sentence**: 0, the refusal's number and its place; or the reason's number and the function that it names.
+#[no_mangle]
+pub extern "C" fn examiner_read_sentence(text: &[u8], answer: &mut Answer) -> u32
+    ensures { λ r. ⌜ Right (Understood (now (text .entry))) (now (answer .entry)) (now (answer .exit)) r ⌝ }
+{
+    outcomes::tell_sentence(sentences::read_sentence(text), answer)
 }

@@ -1,7 +1,11 @@
 -- The sentences as a grammar, by which they are read.
 use Prim.Native.Nat.{ℕ, _-_}
+use mathlib.Core.Bool.{cond}
 use mathlib.Core.List.{List}
-use Rattle.model.specs.declared.Refusal.the-variants.{NoSentence}
+use lib.Dec.{leb}
+use Rattle.model.specs.declared.Refusal.the-variants.{OutOfRange, NoSentence}
+use Rattle.model.specs.declared.Verdict.{Verdict}
+use Rattle.model.specs.declared.Verdict.the-variants as verdict
 use Rattle.model.specs.declared.Reason.the-variants.{EveryVisit, FirstLoad, Never}
 use Rattle.model.specs.declared.Remark.{Remark}
 use Rattle.model.specs.declared.Remark.the-variants as remark
@@ -61,3 +65,7 @@ answerOf (Stuck k) = read.Refused (NoSentence k)
 abbrev pub stopOf : Words → ℕ
 stopOf (Passed at) = at
 stopOf (Stopped at) = at
+
+-- Word's check of a refusal's place.
+abbrev pub judgePlace : ℕ → Verdict
+judgePlace at = cond (leb at mostPlace) verdict.Accepted (verdict.Refused (OutOfRange 0))

@@ -12,13 +12,19 @@ use pieces::Words;
 ghost use Prim.Native.Nat.{_-_, _≤_};
 ghost use mathlib.Core.Path.{_≡_};
 ghost use lib.ListN.{length, drop};
-ghost use Rattle.model.specs.declared.Remark.the-variants.{Refused, Explained};
+ghost use Rattle.model.specs.declared.Remark.the-variants.{Explained};
 ghost use Rattle.model.specs.Refusals.{lastRefusal};
 ghost use Rattle.model.specs.Places.{mostFunctions};
-ghost use Rattle.model.specs.Sentences.{phrase, mostPlace, judgeRemark, wordRemark, wordedBuffer, ReadsAs};
+ghost use Rattle.model.specs.Sentences.{phrase, mostPlace, judgeRemark, judgeRoom, wordRemark, wordedBuffer, ReadsAs};
 ghost use Rattle.grammar.specs.Grammar.{value, done, texts, Stuck, readBy};
-ghost use Rattle.wording.specs.Wording.{WordedAs};
-ghost use Rattle.sentences.specs.Remarks.{refusing, everyVisit, afterPlace, afterNumber, afterFunction, answerOf, stopOf};
+ghost use Rattle.sentences.specs.Remarks.{refusing, everyVisit, afterPlace, afterNumber, afterFunction, answerOf, stopOf, judgePlace};
+
+// No place of 64 bits is out of range.
+fn judge_place(place: u64) -> Verdict
+    ensures { λ r. ⌜ r ≡ judgePlace place ⌝ }
+{
+    Verdict::Accepted
+}
 
 // 3: a reason that names a function above 31.
 fn judge_reason(reason: Reason) -> Verdict
@@ -36,35 +42,42 @@ fn judge_reason(reason: Reason) -> Verdict
     }
 }
 
-fn word_refusal(refusal: Refusal, text: &mut [u8]) -> WordAnswer
-    ensures { λ r. ⌜ WordedAs (Refused refusal) (now (text .entry)) (now (text .exit)) r ⌝ }
+fn judge_remark(remark: Remark) -> Verdict
+    ensures { λ r. ⌜ r ≡ judgeRemark remark ⌝ }
 {
-    let mut room = [0u8; limits::MOST_SENTENCE];
-    let need = wording::write_refusal(refusal, &mut room);
-    wording::put(&room[..need], text)
+    match remark {
+        Remark::Refused(refusal) => judge_place(model::place_of(refusal)),
+        Remark::Explained(reason) => judge_reason(reason),
+    }
 }
 
-fn word_reason(reason: Reason, text: &mut [u8]) -> WordAnswer
-    ensures { λ r. ⌜ WordedAs (Explained reason) (now (text .entry)) (now (text .exit)) r ⌝ }
+// 10: a text buffer that is too short.
+fn judge_room(need: usize, room: usize) -> Verdict
+    ensures { λ r. ⌜ r ≡ judgeRoom need room ⌝ }
 {
-    let judged = judge_reason(reason);
-    let Verdict::Accepted = judged else {
-        return WordAnswer::Refused(model::refusal_in(judged));
-    };
-    let mut room = [0u8; limits::MOST_SENTENCE];
-    let need = wording::write_reason(reason, &mut room);
-    wording::put(&room[..need], text)
+    if room < need {
+        return Verdict::Refused(Refusal::BufferTooShort(need as u64));
+    }
+    Verdict::Accepted
 }
 
-// **Word.** Writes the sentence at the front of the buffer, or refuses and leaves the buffer as it is.
+// **Word.** Writes the sentence at the front of the buffer, or refuses and leaves the buffer as it is. The sentence is made first, since 10 tells its length.
 pub fn word(remark: Remark, text: &mut [u8]) -> WordAnswer
     ensures { λ r. ⌜ r ≡ wordRemark remark (length (now (text .entry))) ⌝ }
     ensures { λ r. ⌜ now (text .exit) ≡ wordedBuffer remark (now (text .entry)) ⌝ }
 {
-    match remark {
-        Remark::Refused(refusal) => word_refusal(refusal, text),
-        Remark::Explained(reason) => word_reason(reason, text),
-    }
+    let mut room = [0u8; limits::MOST_SENTENCE];
+    let need = wording::write_remark(remark, &mut room);
+    let said = judge_remark(remark);
+    let fits = judge_room(need, text.len());
+    let Verdict::Accepted = said else {
+        return WordAnswer::Refused(model::refusal_in(said));
+    };
+    let Verdict::Accepted = fits else {
+        return WordAnswer::Refused(model::refusal_in(fits));
+    };
+    decimals::write_text(text, 0, &room[..need]);
+    WordAnswer::Worded(need)
 }
 
 // 22 at a byte.

@@ -1,22 +1,19 @@
-// A remark's sentence made in a room for any, and put into what is lent.
+// A remark's sentence, written into room for any.
 use model::Reason;
 use model::Refusal;
-use model::Verdict;
-use model::WordAnswer;
+use model::Remark;
 use model::limits;
 ghost use Prim.Native.Nat.{_+_, _≤_};
-ghost use mathlib.Core.Path.{_≡_};
 ghost use mathlib.Core.List.{_++_};
 ghost use lib.ListN.{length};
 ghost use Rattle.model.specs.declared.Remark.the-variants.{Refused, Explained};
-ghost use Rattle.model.specs.declared.Verdict.the-variants.{Accepted};
 ghost use Rattle.model.specs.Refusals.{lastRefusal};
 ghost use Rattle.model.specs.Decimals.{decimal};
-ghost use Rattle.model.specs.Sentences.{phrase, sentence, judgeRemark, judgeRoom};
+ghost use Rattle.model.specs.Sentences.{phrase, sentence};
 ghost use Rattle.decimals.specs.Digits.{mostDigits};
 ghost use Rattle.decimals.specs.Written.{Written};
 ghost use Rattle.phrases.specs.Joined.{mostPhrase};
-ghost use Rattle.wording.specs.Wording.{refusalText, PutAs};
+ghost use Rattle.wording.specs.Wording.{refusalText};
 
 // No sentence is longer.
 pub type Room = [u8; limits::MOST_SENTENCE];
@@ -43,10 +40,9 @@ fn write_numbered(number: u32, place: u64, room: &mut Room) -> usize
     decimals::write_text(room, placed, b".")
 }
 
-// A refusal's sentence. Its place has 64 bits, so it is in range.
-pub fn write_refusal(refusal: Refusal, room: &mut Room) -> usize
+// A refusal's sentence.
+fn write_refusal(refusal: Refusal, room: &mut Room) -> usize
     ensures { λ r. ⌜ Written (now (room .entry)) 0 (sentence (Refused refusal)) (now (room .exit)) r ⌝ }
-    ensures { λ r. ⌜ judgeRemark (Refused refusal) ≡ Accepted ⌝ }
 {
     let number = model::number_of(refusal);
     let place = model::place_of(refusal);
@@ -54,7 +50,7 @@ pub fn write_refusal(refusal: Refusal, room: &mut Room) -> usize
 }
 
 // A reason's sentence.
-pub fn write_reason(reason: Reason, room: &mut Room) -> usize
+fn write_reason(reason: Reason, room: &mut Room) -> usize
     ensures { λ r. ⌜ Written (now (room .entry)) 0 (sentence (Explained reason)) (now (room .exit)) r ⌝ }
 {
     match reason {
@@ -80,25 +76,12 @@ pub fn write_reason(reason: Reason, room: &mut Room) -> usize
     }
 }
 
-// 10: a text buffer that is too short.
-fn judge_room(need: usize, room: usize) -> Verdict
-    ensures { λ r. ⌜ r ≡ judgeRoom need room ⌝ }
+// A remark's sentence, at the front of the room. Answers how many bytes it has.
+pub fn write_remark(remark: Remark, room: &mut Room) -> usize
+    ensures { λ r. ⌜ Written (now (room .entry)) 0 (sentence remark) (now (room .exit)) r ⌝ }
 {
-    if room < need {
-        return Verdict::Refused(Refusal::BufferTooShort(need as u64));
+    match remark {
+        Remark::Refused(refusal) => write_refusal(refusal, room),
+        Remark::Explained(reason) => write_reason(reason, room),
     }
-    Verdict::Accepted
-}
-
-// Puts a sentence at the front of what is lent, or refuses and leaves that as it is.
-pub fn put(sentence: &[u8], text: &mut [u8]) -> WordAnswer
-    ensures { λ r. ⌜ PutAs (now (sentence .entry)) (now (text .entry)) (now (text .exit)) r ⌝ }
-{
-    let need = sentence.len();
-    let judged = judge_room(need, text.len());
-    let Verdict::Accepted = judged else {
-        return WordAnswer::Refused(model::refusal_in(judged));
-    };
-    decimals::write_text(text, 0, sentence);
-    WordAnswer::Worded(need)
 }

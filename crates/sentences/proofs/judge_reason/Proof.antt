@@ -1,5 +1,5 @@
 -- `judge_reason` refuses a function above 31 alone.
-use Rattle.wording.proofs.Wording.{function-known, function-unknown}
+use Rattle.sentences.proofs.Wording.{function-known, function-unknown}
 use borrow.Author.Needs.{needs}
 use Rattle.sentences.proofs.judge_reason.Statement.{statement}
 use Rattle.sentences.proofs.judge_reason.Tie as tie

@@ -1,5 +1,5 @@
 -- `write_refusal` writes the sentence of the number and the place.
-use Rattle.wording.proofs.Wording.{phrased, refusal-written, placed}
+use Rattle.wording.proofs.Wording.{phrased, refusal-written}
 use borrow.Author.Needs.{needs}
 use Rattle.wording.proofs.write_refusal.Statement.{statement}
 use Rattle.wording.proofs.write_refusal.Tie as tie
@@ -20,7 +20,7 @@ write-numbered-requires c κs = let n = c .before .before in phrased (n .before 
 returns : tie.Need-returns
 returns c =
     let p = told c in
-    (refusal-written (p .before .before .args .refusal) _ _ (p .before .number-of .ensures) (p .place-of .ensures) (c .write-numbered .ensures), placed (p .before .before .args .refusal) _ (p .place-of .ensures) (search needs))
+    refusal-written (p .before .before .args .refusal) _ _ (p .before .number-of .ensures) (p .place-of .ensures) (c .write-numbered .ensures)
 
 pub write-refusal-spec : {M : Type 1} → statement M
 write-refusal-spec =

@@ -1,7 +1,7 @@
 -- `judge_room` compares what is needed with what is there.
 use borrow.Author.Tests.{lt-ltb, le-ltb}
-use Rattle.wording.proofs.judge_room.Statement.{statement}
-use Rattle.wording.proofs.judge_room.Tie as tie
+use Rattle.sentences.proofs.judge_room.Statement.{statement}
+use Rattle.sentences.proofs.judge_room.Tie as tie
 
 returns : tie.Need-returns
 returns c = rw (lt-ltb _ _ (c .if1 .taken))
