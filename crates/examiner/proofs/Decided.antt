@@ -1,4 +1,4 @@
--- The contracts of the exports of Interference, Bound and Eviction leave nothing open: no two outcomes meet them.
+-- The contracts of the exports of Interference, Bound, Eviction and Read-sentence leave nothing open: no two outcomes meet them.
 use Prim.Native.Nat.{ℕ, _^_, _<_}
 use mathlib.Core.Path.{_≡_, sym, ap, _∙_}
 use mathlib.Core.List.{List}
@@ -9,7 +9,8 @@ use Rattle.model.specs.Operations.{readFile}
 use Rattle.bound.proofs.Decided.{bound-decided}
 use Rattle.eviction.proofs.Decided.{eviction-decided}
 use Rattle.interference.proofs.Decided.{interference-decided}
-use Rattle.model.specs.Outcomes.{Outcome, refusalOutcome, interferenceOutcome, boundOutcome, evictionOutcome, FillsWords, IsBounded, Evicted}
+use Rattle.sentences.proofs.Claims.{sentence-decided}
+use Rattle.model.specs.Outcomes.{Outcome, refusalOutcome, interferenceOutcome, boundOutcome, evictionOutcome, sentenceOutcome, FillsWords, IsBounded, Evicted, Understood}
 use Rattle.outcomes.specs.Outcomes.{status, answerAfter, Right, ByRead}
 use Rattle.examiner.specs.Exports.{BoundTold, InterferenceTold, EvictionTold}
 
@@ -63,3 +64,10 @@ module _ (layout : List ℕ) (v : ℕ) (walk end end′ : List ℕ) where
       Right (EvictionTold file layout v walk end) before after r → Right (EvictionTold file layout v walk end′) before after′ r′ →
       (r ≡ r′) × (after ≡ after′) × (end ≡ end′)
   eviction-export-decided file = told-both (EvictionTold file layout v walk) end end′ (λ o o′. evicted-once o o′ (readFile file))
+
+understood-once : (text : List ℕ) (o o′ : Outcome) → Understood text o → Understood text o′ → o ≡ o′
+understood-once text o o′ (r, says, is) (r′, says′, is′) = is ∙ ap sentenceOutcome (sentence-decided text r r′ says says′) ∙ sym is′
+
+pub sentence-export-decided : (text before after after′ : List ℕ) (r r′ : ℕ) →
+    Right (Understood text) before after r → Right (Understood text) before after′ r′ → (r ≡ r′) × (after ≡ after′)
+sentence-export-decided text = told-once (Understood text) (Understood text) (understood-once text)

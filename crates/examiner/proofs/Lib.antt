@@ -2,3 +2,4 @@ pub mod Told
 pub mod Decided
 pub mod Alike
 pub mod WrittenBack
+pub mod Worded
