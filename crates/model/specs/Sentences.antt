@@ -7,9 +7,7 @@ use mathlib.Core.Bool.{Bool, true, cond}
 use lib.ListN.{length, take, getD}
 use lib.Seq.{sets}
 use lib.Dec.{ltb, leb}
-use Rattle.model.specs.declared.Refusal.{Refusal}
 use Rattle.model.specs.declared.Refusal.the-variants.{OutOfRange, BufferTooShort, NoSentence}
-use Rattle.model.specs.declared.Reason.{Reason}
 use Rattle.model.specs.declared.Reason.the-variants.{EveryVisit, FirstLoad, Never}
 use Rattle.model.specs.declared.Verdict.{Verdict}
 use Rattle.model.specs.declared.Verdict.the-variants as verdict

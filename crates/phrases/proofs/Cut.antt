@@ -50,12 +50,12 @@ cut-as (p ∷ rest) at (suc k) h = later _ _ (cut-as rest (at + length (text p))
         }
 
 -- A phrase in the table, from `from` to `to`.
-pub record Stands (n from to : ℕ) : Type 0 where
-  pub ordered : from ≤ to
-  pub high : to ≤ length joined
-  pub is : take (to - from) (drop from joined) ≡ phrase n
+record Stands (n from to : ℕ) : Type 0 where
+  ordered : from ≤ to
+  high : to ≤ length joined
+  is : take (to - from) (drop from joined) ≡ phrase n
 
-pub stands : (n : ℕ) → 1 ≤ n → n ≤ lastRefusal → Stands n (getD starts (n - 1) 0) (getD starts n 0)
+stands : (n : ℕ) → 1 ≤ n → n ≤ lastRefusal → Stands n (getD starts (n - 1) 0) (getD starts n 0)
 unfolding joined starts phrase phrases
 stands n low high =
     let e : suc (n - 1) ≡ n = omega arith in
@@ -66,3 +66,7 @@ stands n low high =
     at from to c =
         let z : from - 0 ≡ from = omega arith in
         record { ordered = c .ordered; high = omega (arith, c .high); is = rw z at (c .is) }
+
+pub in-table : (n : ℕ) (table : List ℕ) → (table ≡ joined) × (1 ≤ n) × (n ≤ lastRefusal) →
+    (getD starts (n - 1) 0 ≤ getD starts n 0) × (getD starts n 0 ≤ length table) × (take (getD starts n 0 - getD starts (n - 1) 0) (drop (getD starts (n - 1) 0) table) ≡ phrase n)
+in-table n table (e, low, high) = let s = stands n low high in (s .ordered, rw e (s .high), rw e (s .is))

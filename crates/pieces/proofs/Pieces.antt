@@ -1,18 +1,16 @@
 -- Reading by a grammar is reading its pieces in turn, each at a position of one text.
-use Prim.Native.Nat.{ℕ, suc, _+_, _-_, _*_, _≤_, _<_}
+use Prim.Native.Nat.{ℕ, suc, _+_, _-_, _*_, _≤_}
 use native.Mathlib.Omega.{arith}
-use mathlib.Core.Path.{_≡_, refl, sym, ap, _∙_, subst}
+use mathlib.Core.Path.{_≡_, refl, sym, ap, _∙_}
 use mathlib.Core.Bool.{Bool, true, false, cond}
 use mathlib.Core.List.{List, [], _∷_}
 use lib.ListN.{length, drop, length-drop}
 use lib.Seq.{drop-drop}
 use lib.Dec.{eqb}
 use Rattle.grammar.specs.Numerals.{opens, fits, digits, numeral}
-use Rattle.grammar.specs.Grammar.{Grammar, branch, value, dead, texts, Out, Stuck, readBy}
+use Rattle.grammar.specs.Grammar.{Grammar, value, texts, Out, Stuck, readBy}
 use Rattle.grammar.proofs.Numerals.{opens-gives, fits-gives}
-use Rattle.pieces.specs.declared.Words.{Words}
 use Rattle.pieces.specs.declared.Words.the-variants.{Passed, Stopped}
-use Rattle.pieces.specs.declared.Digits.{Digits}
 use Rattle.pieces.specs.declared.Digits.the-variants.{Value, Nothing}
 use Rattle.pieces.specs.Pieces.{passWords, found, readValue}
 

@@ -1,23 +1,15 @@
 -- What is claimed of sentences: reading gives back what a sentence came from, no two remarks share one, no two answers are right, and none is longer than 128.
-use Prim.Native.Nat.{ℕ, zero, suc, _+_, _-_, _≤_, _<_}
-use native.Mathlib.Omega.{arith}
+use Prim.Native.Nat.{ℕ, suc, _+_, _-_}
 use mathlib.Core.Path.{_≡_, refl, sym, ap, _∙_, subst}
-use mathlib.Core.Bool.{Bool, true, _&&_}
-use mathlib.Core.List.{List, [], _∷_, _++_}
-use lib.ListN.{length, take, getD, length-append}
-use lib.Dec.{leb}
-use borrow.Author.Tests.{leb-true, ltb-true}
-use Rattle.model.specs.declared.Refusal.{Refusal}
-use Rattle.model.specs.declared.Refusal.the-variants.{NoSentence, WrongStep}
-use Rattle.model.specs.declared.Reason.the-variants.{EveryVisit, FirstLoad, Never}
+use mathlib.Core.List.{List, _++_}
+use lib.ListN.{take}
 use Rattle.model.specs.declared.Remark.{Remark}
 use Rattle.model.specs.declared.Remark.the-variants as remark
 use Rattle.model.specs.declared.SentenceAnswer.{SentenceAnswer}
 use Rattle.model.specs.declared.SentenceAnswer.the-variants as read
 use Rattle.model.specs.Sentences.{sentence, Wordable, Begins, ReadsAs}
 use Rattle.grammar.specs.Grammar.{Out, Meant, Stuck, readBy, Spells, Starts, Reads}
-use Rattle.grammar.proofs.Reading.{gives-back, reads, one-meaning, decided}
-use Rattle.grammar.proofs.Texts.{Live}
+use Rattle.grammar.proofs.Reading.{reads, one-meaning, decided}
 use Rattle.sentences.specs.Remarks.{remarks, answerOf}
 use Rattle.sentences.proofs.Told.{remarks-live, spelt, told}
 

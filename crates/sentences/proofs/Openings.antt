@@ -1,7 +1,7 @@
 -- A text's first byte tells which sentence it may be.
 use Prim.Native.Nat.{ℕ, _-_, _<_}
 use native.Mathlib.Omega.{arith}
-use mathlib.Core.Path.{_≡_, sym, ap, _∙_, subst}
+use mathlib.Core.Path.{_≡_, sym, subst}
 use mathlib.Core.List.{List, [], _∷_}
 use lib.ListN.{length, getD}
 use Rattle.model.specs.declared.Reason.the-variants.{FirstLoad, Never}
@@ -11,7 +11,7 @@ use Rattle.model.specs.Refusals.{lastRefusal}
 use Rattle.model.specs.Places.{mostFunctions}
 use Rattle.model.specs.Decimals.{text}
 use Rattle.model.specs.Sentences.{ReadsAs}
-use Rattle.grammar.specs.Grammar.{Grammar, dead, done, value, texts, Stuck, readBy}
+use Rattle.grammar.specs.Grammar.{dead, done, value, texts, Stuck, readBy}
 use Rattle.sentences.specs.Remarks.{refusing, everyVisit, firstLoad, never, afterNumber, afterFunction, last, fixed, reasons, remarks, answerOf}
 use Rattle.sentences.proofs.Claims.{reads-as}
 use Rattle.sentences.proofs.Steps.{Answers, opens-so, opens-otherwise}

@@ -1,8 +1,7 @@
 -- How long a sentence is.
-use Prim.Native.Nat.{ℕ, _+_, _≤_, _<_}
+use Prim.Native.Nat.{ℕ, _≤_}
 use native.Mathlib.Omega.{arith}
 use mathlib.Core.Path.{_≡_, refl}
-use mathlib.Core.List.{List, _++_}
 use lib.ListN.{length, length-append}
 use borrow.Author.Tests.{leb-true, ltb-true}
 use Rattle.model.specs.declared.Refusal.the-variants.{WrongStep}
@@ -15,7 +14,7 @@ use Rattle.model.specs.Decimals.{text}
 use Rattle.model.specs.Sentences.{phrases, phrase, sentence, mostPlace, mostSentence, Wordable}
 use Rattle.model.proofs.Refusals.{known}
 use Rattle.decimals.proofs.Digits.{few-digits, many-digits}
-use Rattle.phrases.proofs.Sizes.{phrase-size}
+use Rattle.phrases.proofs.Rules.{phrase-size}
 
 -- The longest one has 106 bytes.
 abbrev pub longest : ℕ

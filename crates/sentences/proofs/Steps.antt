@@ -1,12 +1,10 @@
 -- Read-sentence, step by step: what each piece of the text leaves to read.
-use Prim.Native.Nat.{ℕ, zero, suc, _-_, _≤_, _<_}
+use Prim.Native.Nat.{ℕ, _-_, _≤_, _<_}
 use native.Mathlib.Omega.{arith}
-use mathlib.Core.Path.{_≡_, refl, sym, ap, _∙_}
-use mathlib.Core.Bool.{cond}
+use mathlib.Core.Path.{_≡_, sym, ap, _∙_}
 use mathlib.Core.List.{List, [], _∷_}
 use lib.ListN.{length, drop, getD}
 use lib.Seq.{drop-cons}
-use lib.Dec.{eqb}
 use borrow.Author.Tests.{eq-eqb, ne-eqb}
 use Rattle.model.specs.declared.Refusal.{Refusal}
 use Rattle.model.specs.declared.Remark.{Remark}
@@ -14,7 +12,7 @@ use Rattle.model.specs.declared.Remark.the-variants as remark
 use Rattle.model.specs.declared.SentenceAnswer.{SentenceAnswer}
 use Rattle.model.specs.Refusals.{refusalOf}
 use Rattle.model.specs.Decimals.{text}
-use Rattle.grammar.specs.Grammar.{Grammar, done, value, texts, either, Out, Meant, Stuck, readBy}
+use Rattle.grammar.specs.Grammar.{Grammar, done, value, texts, either, Meant, Stuck, readBy}
 use Rattle.pieces.specs.declared.Words.{Words}
 use Rattle.pieces.specs.declared.Words.the-variants.{Passed, Stopped}
 use Rattle.pieces.specs.declared.Digits.{Digits}

@@ -1,10 +1,9 @@
 -- Sentences are the texts that the grammar allows, each with the remark it came from.
-use Prim.Native.Nat.{ℕ, suc, _-_, _≤_, _<_}
+use Prim.Native.Nat.{ℕ, _-_, _≤_, _<_}
 use native.Mathlib.Omega.{arith}
 use mathlib.Core.Path.{_≡_, refl, sym, ap, ap₂, _∙_, subst}
 use mathlib.Core.List.{List, [], _∷_, _++_, append-assoc}
-use mathlib.Core.Logic.{_⊎_, inl, inr}
-use lib.ListN.{length, take}
+use mathlib.Core.Logic.{inl, inr}
 use borrow.Author.Tests.{leb-true, le-leb, ltb-true, lt-ltb}
 use Rattle.model.specs.declared.Refusal.{Refusal}
 use Rattle.model.specs.declared.Reason.the-variants.{EveryVisit, FirstLoad, Never}
@@ -15,7 +14,7 @@ use Rattle.model.specs.Places.{mostFunctions}
 use Rattle.model.specs.Decimals.{text, decimal}
 use Rattle.model.specs.Sentences.{phrase, sentence, mostPlace, Wordable}
 use Rattle.model.proofs.Refusals.{known, number-is, place-is}
-use Rattle.grammar.specs.Grammar.{Grammar, dead, done, value, texts, either, Spells, Plain, Good}
+use Rattle.grammar.specs.Grammar.{dead, done, value, texts, Spells, Plain, Good}
 use Rattle.grammar.proofs.Texts.{texts-spell, spell-texts, texts-plain, whole-spell, spell-whole, value-spell, spell-value, first-spell, whole-first, other-spell, Split, spell-either, spell-end, Live, done-live, texts-live, value-live, either-live}
 use Rattle.sentences.specs.Remarks.{refusing, everyVisit, firstLoad, never, afterPlace, afterNumber, afterFunction, last, fixed, reasons, remarks}
 

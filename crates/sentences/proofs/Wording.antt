@@ -18,7 +18,7 @@ use Rattle.model.specs.declared.WordAnswer.{WordAnswer}
 use Rattle.model.specs.declared.WordAnswer.the-variants as word
 use Rattle.model.specs.Refusals.{place}
 use Rattle.model.specs.Places.{mostFunctions}
-use Rattle.model.specs.Sentences.{sentence, mostPlace, judgeRemark, judgeRoom, wordVerdict, wordRemark, wordedBuffer}
+use Rattle.model.specs.Sentences.{sentence, mostPlace, judgeRemark, judgeRoom, wordRemark, wordedBuffer}
 use Rattle.model.proofs.Cases.{by-less}
 use Rattle.model.proofs.Answers.{refused-not-accepted}
 use Rattle.decimals.specs.Written.{Written}

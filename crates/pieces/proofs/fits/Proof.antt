@@ -1,5 +1,4 @@
 -- `fits` is the test of a further digit.
-use native.Mathlib.Omega.{arith}
 use Rattle.pieces.proofs.Tests.{fits-low, fits-high, fits-zero, fits-past, fits-last}
 use borrow.Author.Needs.{needs}
 use Rattle.pieces.proofs.fits.Statement.{statement}

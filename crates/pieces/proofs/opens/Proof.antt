@@ -1,5 +1,4 @@
 -- `opens` is the test of a first digit.
-use native.Mathlib.Omega.{arith}
 use Rattle.pieces.proofs.Tests.{opens-low, opens-high, opens-few, opens-last}
 use borrow.Author.Needs.{needs}
 use Rattle.pieces.proofs.opens.Statement.{statement}

@@ -1,6 +1,5 @@
 -- `pass_words` goes as far as the words stand there.
 use Prim.Native.Nat.{_-_}
-use native.Mathlib.Omega.{arith}
 use lib.ListN.{length}
 use borrow.Author.Needs.{needs}
 use Rattle.pieces.proofs.Reading.{Passing, passing-start, stop-short, stop-differs, passing-next, passed-all}

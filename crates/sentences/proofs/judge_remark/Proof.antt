@@ -1,6 +1,4 @@
 -- `judge_remark` goes by the remark.
-use mathlib.Core.Path.{sym, ap, _∙_}
-use Rattle.model.specs.Sentences.{judgeRemark}
 use Rattle.sentences.proofs.Wording.{judged-place}
 use borrow.Author.Needs.{needs}
 use Rattle.sentences.proofs.judge_remark.Statement.{statement}

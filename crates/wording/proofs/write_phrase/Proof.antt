@@ -2,7 +2,7 @@
 use native.Mathlib.Omega.{arith}
 use mathlib.Core.Path.{ap}
 use lib.ListN.{length}
-use Rattle.phrases.proofs.Sizes.{phrase-size}
+use Rattle.phrases.proofs.Rules.{phrase-size}
 use Rattle.wording.proofs.Wording.{label-known}
 use borrow.Author.Needs.{needs}
 use Rattle.wording.proofs.write_phrase.Statement.{statement}

@@ -7,8 +7,8 @@ use Prim.Native.Nat.{ℕ}
 use Rattle.sentences.specs.Remarks.{afterPlace, afterNumber}
 use Rattle.sentences.proofs.Steps.{stops, passed-within, passes}
 use borrow.Author.Needs.{needs}
-use Rattle.sentences.proofs.read_numbered.Statement.{statement}
-use Rattle.sentences.proofs.read_numbered.Tie as tie
+use Rattle.sentences.proofs.reading.read_numbered.Statement.{statement}
+use Rattle.sentences.proofs.reading.read_numbered.Tie as tie
 
 -- How far the words went.
 abbrev stopped-at : tie.After-stopped → tie.After-pass-words

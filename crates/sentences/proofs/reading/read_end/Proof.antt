@@ -1,8 +1,8 @@
 -- `read_end` goes past the last words, and nothing may be left.
 use Rattle.sentences.proofs.Steps.{stops, passes, ends, left-over}
 use borrow.Author.Needs.{needs}
-use Rattle.sentences.proofs.read_end.Statement.{statement}
-use Rattle.sentences.proofs.read_end.Tie as tie
+use Rattle.sentences.proofs.reading.read_end.Statement.{statement}
+use Rattle.sentences.proofs.reading.read_end.Tie as tie
 
 -- How far the words went.
 abbrev stopped-at : tie.After-stopped → tie.After-pass-words

@@ -3,8 +3,8 @@ use Rattle.model.specs.Decimals.{text}
 use Rattle.sentences.specs.Remarks.{afterFunction}
 use Rattle.sentences.proofs.Steps.{lacks, in-range, counts}
 use borrow.Author.Needs.{needs}
-use Rattle.sentences.proofs.read_function.Statement.{statement}
-use Rattle.sentences.proofs.read_function.Tie as tie
+use Rattle.sentences.proofs.reading.read_function.Statement.{statement}
+use Rattle.sentences.proofs.reading.read_function.Tie as tie
 
 -- What was found at the position.
 abbrev missed : tie.After-no-sentence → tie.After-read-decimal

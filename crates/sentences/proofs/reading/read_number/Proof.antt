@@ -6,8 +6,8 @@ use Rattle.model.specs.Refusals.{lastRefusal}
 use Rattle.sentences.specs.Remarks.{afterNumber}
 use Rattle.sentences.proofs.Steps.{lacks, in-range, counts}
 use borrow.Author.Needs.{needs}
-use Rattle.sentences.proofs.read_number.Statement.{statement}
-use Rattle.sentences.proofs.read_number.Tie as tie
+use Rattle.sentences.proofs.reading.read_number.Statement.{statement}
+use Rattle.sentences.proofs.reading.read_number.Tie as tie
 
 -- What was found at the position.
 abbrev missed : tie.After-no-sentence → tie.After-read-decimal

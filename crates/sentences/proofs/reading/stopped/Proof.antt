@@ -4,8 +4,8 @@ use Rattle.grammar.specs.Grammar.{Stuck}
 use Rattle.pieces.specs.declared.Words.{Words}
 use Rattle.sentences.specs.Remarks.{answerOf, stopOf}
 use borrow.Author.Needs.{needs}
-use Rattle.sentences.proofs.stopped.Statement.{statement}
-use Rattle.sentences.proofs.stopped.Tie as tie
+use Rattle.sentences.proofs.reading.stopped.Statement.{statement}
+use Rattle.sentences.proofs.reading.stopped.Tie as tie
 
 enum-known-words : tie.Need-enum-known-words
 enum-known-words c = search needs

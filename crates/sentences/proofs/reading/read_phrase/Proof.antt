@@ -1,11 +1,11 @@
 -- `read_phrase` goes past the phrase and reads the place.
-use Rattle.model.specs.Sentences.{phrase, mostPlace}
+use Rattle.model.specs.Sentences.{mostPlace}
 use Rattle.grammar.specs.Grammar.{value}
 use Rattle.sentences.specs.Remarks.{afterPlace}
 use Rattle.sentences.proofs.Steps.{stops, passed-within, passes, words-known}
 use borrow.Author.Needs.{needs}
-use Rattle.sentences.proofs.read_phrase.Statement.{statement}
-use Rattle.sentences.proofs.read_phrase.Tie as tie
+use Rattle.sentences.proofs.reading.read_phrase.Statement.{statement}
+use Rattle.sentences.proofs.reading.read_phrase.Tie as tie
 
 -- How far the words went.
 abbrev stopped-at : tie.After-stopped → tie.After-pass-words

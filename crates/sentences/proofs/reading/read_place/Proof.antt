@@ -3,8 +3,8 @@ use Rattle.model.specs.Decimals.{text}
 use Rattle.sentences.specs.Remarks.{afterPlace}
 use Rattle.sentences.proofs.Steps.{lacks, in-range, counts, placed-so}
 use borrow.Author.Needs.{needs}
-use Rattle.sentences.proofs.read_place.Statement.{statement}
-use Rattle.sentences.proofs.read_place.Tie as tie
+use Rattle.sentences.proofs.reading.read_place.Statement.{statement}
+use Rattle.sentences.proofs.reading.read_place.Tie as tie
 
 -- What was found at the position.
 abbrev missed : tie.After-no-sentence → tie.After-read-decimal
