@@ -11,6 +11,7 @@ ghost use mathlib.Core.Path.{_≡_};
 ghost use lib.ListN.{length};
 ghost use Rattle.model.specs.declared.Remark.the-variants.{Explained};
 ghost use Rattle.model.specs.Sentences.{judgeRemark, judgeRoom, wordRemark, wordedBuffer, ReadsAs};
+ghost use Rattle.model.specs.Outcomes.{wordOutcome, wordSays, sentenceOutcome, Understood};
 ghost use Rattle.sentences.specs.Remarks.{judgePlace};
 
 mod reading;
@@ -61,6 +62,7 @@ fn judge_room(need: usize, room: usize) -> Verdict
 pub fn word(remark: Remark, text: &mut [u8]) -> WordAnswer
     ensures { λ r. ⌜ r ≡ wordRemark remark (length (now (text .entry))) ⌝ }
     ensures { λ r. ⌜ now (text .exit) ≡ wordedBuffer remark (now (text .entry)) ⌝ }
+    ensures { λ r. ⌜ wordOutcome r ≡ wordSays remark (length (now (text .entry))) ⌝ }
 {
     let mut room = [0u8; limits::MOST_SENTENCE];
     let need = wording::write_remark(remark, &mut room);
@@ -80,6 +82,7 @@ pub fn word(remark: Remark, text: &mut [u8]) -> WordAnswer
 // byte tells the opening.
 pub fn read_sentence(text: &[u8]) -> SentenceAnswer
     ensures { λ r. ⌜ ReadsAs (now (text .entry)) r ⌝ }
+    ensures { λ r. ⌜ Understood (now (text .entry)) (sentenceOutcome r) ⌝ }
 {
     if text.len() == 0 {
         return reading::no_sentence(0);

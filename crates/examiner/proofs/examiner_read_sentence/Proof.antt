@@ -1,5 +1,4 @@
 -- `examiner_read_sentence` tells what Read-sentence gave.
-use mathlib.Core.Path.{refl}
 use Rattle.model.specs.Outcomes.{sentenceOutcome}
 use borrow.Author.Needs.{needs}
 use Rattle.examiner.proofs.examiner_read_sentence.Statement.{statement}
@@ -16,7 +15,7 @@ returns c =
     let r = c .before .before .read-sentence in
     record {
       outcome = sentenceOutcome (r .result);
-      says = (r .result, r .ensures, refl);
+      says = r .ensures .1;
       status-is = c .tell-sentence .ensures .0;
       answer-is = c .tell-sentence .ensures .1;
     }

@@ -1,6 +1,4 @@
 -- `word_told` tells what Word gave.
-use mathlib.Core.Path.{ap}
-use Rattle.model.specs.Outcomes.{wordOutcome}
 use Rattle.outcomes.proofs.Told.{told-with}
 use borrow.Author.Needs.{needs}
 use Rattle.examiner.proofs.word_told.Statement.{statement}
@@ -20,7 +18,7 @@ same-length : tie.Need-same-length
 same-length c = search needs
 
 returns : tie.Need-returns
-returns c = let w = worded c .word .ensures in told-with _ _ _ _ _ (ap wordOutcome (w .0)) (c .tell-worded .ensures .0) (c .tell-worded .ensures .1) (w .1)
+returns c = let w = worded c .word .ensures in told-with _ _ _ _ _ (w .1 .1) (c .tell-worded .ensures .0) (c .tell-worded .ensures .1) (w .1 .0)
 
 pub word-told-spec : {M : Type 1} → statement M
 word-told-spec = tie.close (tie.spec word-requires tell-worded-requires same-length returns)

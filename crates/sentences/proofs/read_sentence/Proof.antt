@@ -5,10 +5,6 @@ use borrow.Author.Needs.{needs}
 use Rattle.sentences.proofs.read_sentence.Statement.{statement}
 use Rattle.sentences.proofs.read_sentence.Tie as tie
 
--- There is a first byte.
-abbrev some : tie.After-shared-slice-known2 → tie.Else1
-some c = c .before
-
 no-sentence-requires : tie.Need-no-sentence-requires
 no-sentence-requires c κs = search needs
 

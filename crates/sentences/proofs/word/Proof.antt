@@ -2,6 +2,8 @@
 use native.Mathlib.Omega.{arith}
 use mathlib.Core.Path.{ap}
 use lib.ListN.{length}
+use Rattle.model.specs.Outcomes.{wordOutcome}
+use Rattle.model.proofs.Answers.{equal-outcome}
 use Rattle.decimals.proofs.Storing.{written-size, written-front}
 use Rattle.sentences.proofs.Wording.{room-for, unsaid, roomless, worded}
 use borrow.Author.Needs.{needs}
@@ -50,7 +52,7 @@ returns c =
     let j = refused c in
     let m = made j in
     let a = start m .args in
-    unsaid (a .remark) (a .text .now) (m .write-remark .ensures) (j .before .judge-remark .ensures) (j .judge-room .ensures) _ (c .refusal-in .ensures)
+    equal-outcome wordOutcome (unsaid (a .remark) (a .text .now) (m .write-remark .ensures) (j .before .judge-remark .ensures) (j .judge-room .ensures) _ (c .refusal-in .ensures))
 
 enum-told-3 : tie.Need-enum-told-3
 enum-told-3 c = search needs
@@ -67,7 +69,7 @@ returns-2 c =
     let j = said e in
     let m = made j in
     let a = start m .args in
-    roomless (a .remark) (a .text .now) (m .write-remark .ensures) (j .before .judge-remark .ensures) (j .judge-room .ensures) _ (e .enum-told .given .1) (c .refusal-in2 .ensures)
+    equal-outcome wordOutcome (roomless (a .remark) (a .text .now) (m .write-remark .ensures) (j .before .judge-remark .ensures) (j .judge-room .ensures) _ (e .enum-told .given .1) (c .refusal-in2 .ensures))
 
 array-share-prefix-room : tie.Need-array-share-prefix-room
 array-share-prefix-room c =
@@ -98,7 +100,7 @@ returns-3 c =
     let j = said e in
     let m = made j in
     let a = start m .args in
-    worded (a .remark) (a .text .now) (m .write-remark .ensures) (j .before .judge-remark .ensures) (j .judge-room .ensures) (e .enum-told .given .1) (f .enum-told3 .given .1) (w .write-text .ensures)
+    equal-outcome wordOutcome (worded (a .remark) (a .text .now) (m .write-remark .ensures) (j .before .judge-remark .ensures) (j .judge-room .ensures) (e .enum-told .given .1) (f .enum-told3 .given .1) (w .write-text .ensures))
 
 pub word-spec : {M : Type 1} → statement M
 word-spec =
