@@ -1,7 +1,6 @@
 -- The rules that every phrase keeps, each by one computed test: it has at most 73 bytes, and no digit among them.
 use Prim.Native.Nat.{ℕ, zero, suc, _-_, _≤_}
 use Prim.Native.String.{String}
-use native.Mathlib.Omega.{arith}
 use mathlib.Core.Path.{_≡_, refl}
 use mathlib.Core.Bool.{Bool, true, _&&_, _||_}
 use mathlib.Core.List.{List, [], _∷_}

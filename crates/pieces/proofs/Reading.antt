@@ -1,11 +1,11 @@
 -- Reading on the way: words up to a byte, and a number up to a digit.
-use Prim.Native.Nat.{ℕ, zero, suc, _+_, _-_, _*_, _≤_, _<_}
+use Prim.Native.Nat.{ℕ, _+_, _-_, _*_, _≤_, _<_}
 use native.Mathlib.Omega.{arith}
 use native.Mathlib.Numerals.{add-one}
-use mathlib.Core.Path.{_≡_, refl, sym, _∙_}
+use mathlib.Core.Path.{_≡_, sym, _∙_}
 use mathlib.Core.Bool.{true, false, cond}
-use mathlib.Core.List.{List, [], _∷_}
-use lib.ListN.{length, drop, getD}
+use mathlib.Core.List.{List}
+use lib.ListN.{length, drop, getD, drop-of-length-le}
 use lib.Seq.{drop-cons}
 use lib.Dec.{eqb}
 use borrow.Author.Tests.{eq-eqb, ne-eqb}
@@ -14,12 +14,6 @@ use Rattle.grammar.proofs.Numerals.{opens-gives, fits-gives}
 use Rattle.pieces.specs.declared.Words.the-variants.{Passed, Stopped}
 use Rattle.pieces.specs.declared.Digits.the-variants.{Value, Nothing}
 use Rattle.pieces.specs.Pieces.{passWords, found, readValue}
-
-pub drop-end : (s : List ℕ) (j : ℕ) → length s ≤ j → drop j s ≡ []
-drop-end [] zero h = refl
-drop-end [] (suc j) h = refl
-drop-end (c ∷ s) zero h = absurd (omega arith)
-drop-end (c ∷ s) (suc j) h = drop-end s j (omega arith)
 
 words-here : (w s : List ℕ) (i j : ℕ) → i < length w → j < length s →
     passWords (drop i w) (drop j s) j ≡ cond (eqb (getD s j 0) (getD w i 0)) (passWords (drop (i + 1) w) (drop (j + 1) s) (j + 1)) (Stopped j)
@@ -39,7 +33,7 @@ module _ (s : List ℕ) (at : ℕ) (w : List ℕ) where
   module _ (i : ℕ) (p : Passing s at w i) where
     pub stop-short : i < length w → length s ≤ at + i → Stopped (at + i) ≡ passWords w (drop at s) at
     unfolding passWords
-    stop-short h k = rw (drop-cons w i 0 h, drop-end s (at + i) k) at (p .same)
+    stop-short h k = rw (drop-cons w i 0 h, drop-of-length-le s k) at (p .same)
 
     here : i < length w → at + i < length s →
         cond (eqb (getD s (at + i) 0) (getD w i 0)) (passWords (drop (i + 1) w) (drop (at + i + 1) s) (at + i + 1)) (Stopped (at + i)) ≡ passWords w (drop at s) at
@@ -55,7 +49,7 @@ module _ (s : List ℕ) (at : ℕ) (w : List ℕ) where
 
     pub passed-all : length w ≤ i → Passed (at + i) ≡ passWords w (drop at s) at
     unfolding passWords
-    passed-all h = rw (drop-end w i h) at (p .same)
+    passed-all h = rw (drop-of-length-le w h) at (p .same)
 
 -- A reading of the number at `at` that has come to `pos`.
 pub record Underway (s : List ℕ) (at l m v pos : ℕ) : Type 0 where
@@ -66,7 +60,7 @@ pub record Underway (s : List ℕ) (at l m v pos : ℕ) : Type 0 where
 module _ (s : List ℕ) (at l m : ℕ) where
   pub none-left : length s ≤ at → Nothing ≡ readValue l m (drop at s) at
   unfolding readValue numeral
-  none-left h = rw (drop-end s at h)
+  none-left h = rw (drop-of-length-le s h)
 
   pub none-opens : at < length s → opens l m (getD s at 0) ≡ false → Nothing ≡ readValue l m (drop at s) at
   unfolding readValue numeral
@@ -79,7 +73,7 @@ module _ (s : List ℕ) (at l m : ℕ) where
   module _ (v pos : ℕ) (u : Underway s at l m v pos) where
     pub stops-at-end : length s ≤ pos → Value v pos ≡ readValue l m (drop at s) at
     unfolding digits
-    stops-at-end h = rw (drop-end s pos h) at (u .same)
+    stops-at-end h = rw (drop-of-length-le s h) at (u .same)
 
     step : pos < length s → digits m v (drop pos s) pos found ≡ cond (fits v m (getD s pos 0)) (digits m (v * 10 + (getD s pos 0 - 48)) (drop (pos + 1) s) (pos + 1) found) (Value v pos)
     unfolding digits

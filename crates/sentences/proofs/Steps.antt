@@ -3,7 +3,7 @@ use Prim.Native.Nat.{ℕ, _-_, _≤_, _<_}
 use native.Mathlib.Omega.{arith}
 use mathlib.Core.Path.{_≡_, sym, ap, _∙_}
 use mathlib.Core.List.{List, [], _∷_}
-use lib.ListN.{length, drop, getD}
+use lib.ListN.{length, drop, getD, drop-of-length-le}
 use lib.Seq.{drop-cons}
 use borrow.Author.Tests.{eq-eqb, ne-eqb}
 use Rattle.model.specs.declared.Refusal.{Refusal}
@@ -18,7 +18,6 @@ use Rattle.pieces.specs.declared.Words.the-variants.{Passed, Stopped}
 use Rattle.pieces.specs.declared.Digits.{Digits}
 use Rattle.pieces.specs.declared.Digits.the-variants.{Value, Nothing}
 use Rattle.pieces.specs.Pieces.{passWords, readValue}
-use Rattle.pieces.proofs.Reading.{drop-end}
 use Rattle.pieces.proofs.Pieces.{words-passed, words-stopped, value-read, value-missing}
 use Rattle.sentences.specs.Remarks.{afterPlace, answerOf, stopOf}
 
@@ -54,7 +53,7 @@ module _ (s : List ℕ) (at : ℕ) (k : ℕ → Grammar Remark) (least most : �
 module _ (s : List ℕ) (at : ℕ) (r : Remark) where
   pub ends : length s ≤ at → Answers s at (done r) (answerOf (Meant r))
   unfolding readBy
-  ends h = rw (drop-end s at h)
+  ends h = rw (drop-of-length-le s h)
 
   pub left-over : {answer : SentenceAnswer} → at < length s → answer ≡ answerOf (Stuck at) → Answers s at (done r) answer
   unfolding readBy
