@@ -4,3 +4,4 @@ pub mod Sizes
 pub mod Wording
 pub mod Steps
 pub mod Openings
+pub mod Worked
