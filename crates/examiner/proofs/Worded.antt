@@ -1,12 +1,19 @@
 -- What is said of a remark by its number.
 use Prim.Native.Nat.{ℕ, _≤_, _<_}
-use mathlib.Core.Path.{_≡_, ap}
+use mathlib.Core.Path.{_≡_, ap, _∙_}
+use mathlib.Core.List.{List}
+use lib.ListN.{length}
 use borrow.Author.Tests.{le-leb, lt-leb, ne-eqb}
 use Rattle.model.specs.declared.Refusal.{Refusal}
+use Rattle.model.specs.declared.Refusal.the-variants.{OutOfRange}
 use Rattle.model.specs.declared.Reason.the-variants.{EveryVisit, FirstLoad, Never}
 use Rattle.model.specs.declared.Remark.{Remark}
 use Rattle.model.specs.declared.Remark.the-variants as remark
 use Rattle.model.specs.Refusals.{lastRefusal, refusalOf}
+use Rattle.model.specs.Sentences.{wordedBuffer}
+use Rattle.model.specs.Outcomes.{Outcome, refusalOutcome, wordSays}
+use Rattle.outcomes.specs.Outcomes.{status, answerAfter}
+use Rattle.outcomes.proofs.Told.{told-with}
 use Rattle.examiner.specs.Exports.{onRefusal, onReason}
 
 module _ {A : Type 0} (n at : ℕ) (said : Remark → A) (unknown : A) where
@@ -30,3 +37,18 @@ module _ {A : Type 0} (n at : ℕ) (said : Remark → A) (unknown : A) where
 
   pub no-reason : (n ≡ 1 → ⊥) → (n ≡ 2 → ⊥) → (n ≡ 3 → ⊥) → unknown ≡ onReason n at said unknown
   no-reason a b c = rw (ne-eqb n 1 a, ne-eqb n 2 b, ne-eqb n 3 c)
+
+-- What is chosen by a number, where a remark is said or none is, is told and held so.
+module _ (choose : (A : Type 0) → (Remark → A) → A → A) (text before : List ℕ) where
+  abbrev chosen : Outcome
+  chosen = choose Outcome (λ q. wordSays q (length text)) (refusalOutcome (OutOfRange 0))
+
+  pub said-told : {r : ℕ} {after end : List ℕ} (q : Remark) → ((A : Type 0) (said : Remark → A) (unknown : A) → said q ≡ choose A said unknown) →
+      (r ≡ status (wordSays q (length text))) × ((after ≡ answerAfter (wordSays q (length text)) before) × (end ≡ wordedBuffer q text)) →
+      (r ≡ status chosen) × ((after ≡ answerAfter chosen before) × (end ≡ choose (List ℕ) (λ q. wordedBuffer q text) text))
+  said-told q is t = told-with _ _ _ _ _ (is Outcome _ _) (t .0) (t .1 .0) (t .1 .1 ∙ is (List ℕ) (λ q. wordedBuffer q text) text)
+
+  pub unsaid-told : {r : ℕ} {after : List ℕ} → ((A : Type 0) (said : Remark → A) (unknown : A) → unknown ≡ choose A said unknown) →
+      (r ≡ status (refusalOutcome (OutOfRange 0))) × (after ≡ answerAfter (refusalOutcome (OutOfRange 0)) before) →
+      (r ≡ status chosen) × ((after ≡ answerAfter chosen before) × (text ≡ choose (List ℕ) (λ q. wordedBuffer q text) text))
+  unsaid-told is t = told-with _ _ _ _ _ (is Outcome (λ q. wordSays q (length text)) _) (t .0) (t .1) (is (List ℕ) (λ q. wordedBuffer q text) text)

@@ -7,13 +7,12 @@ ghost use Prim.Native.Nat.{_+_, _≤_};
 ghost use mathlib.Core.List.{_++_};
 ghost use lib.ListN.{length};
 ghost use Rattle.model.specs.declared.Remark.the-variants.{Refused, Explained};
-ghost use Rattle.model.specs.Refusals.{lastRefusal};
+ghost use Rattle.model.specs.Refusals.{lastRefusal, refusalOf};
 ghost use Rattle.model.specs.Decimals.{decimal};
 ghost use Rattle.model.specs.Sentences.{phrase, sentence};
 ghost use Rattle.decimals.specs.Digits.{mostDigits};
 ghost use Rattle.decimals.specs.Written.{Written};
 ghost use Rattle.phrases.specs.Joined.{mostPhrase};
-ghost use Rattle.wording.specs.Wording.{refusalText};
 
 // No sentence is longer.
 pub type Room = [u8; limits::MOST_SENTENCE];
@@ -32,7 +31,7 @@ fn write_phrase(number: u32, place: u64, room: &mut Room, at: usize) -> usize
 // The sentence of the refusal with a number and a place. Answers how many bytes it has.
 fn write_numbered(number: u32, place: u64, room: &mut Room) -> usize
     requires { ⌜ (1 ≤ number) × (number ≤ lastRefusal) ⌝ }
-    ensures { λ r. ⌜ Written (now (room .entry)) 0 (refusalText number place) (now (room .exit)) r ⌝ }
+    ensures { λ r. ⌜ Written (now (room .entry)) 0 (sentence (Refused (refusalOf number place))) (now (room .exit)) r ⌝ }
 {
     let numbered = decimals::write_labelled(room, 0, b"Refused ", number as u64);
     let behind = decimals::write_text(room, numbered, b": ");

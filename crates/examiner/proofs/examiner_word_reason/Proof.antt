@@ -1,11 +1,6 @@
 -- `examiner_word_reason` goes by the reason's number.
-use mathlib.Core.Path.{_∙_}
-use lib.ListN.{length}
-use Rattle.model.specs.declared.Refusal.the-variants.{OutOfRange}
-use Rattle.model.specs.Sentences.{wordedBuffer}
-use Rattle.model.specs.Outcomes.{refusalOutcome, wordSays}
-use Rattle.outcomes.proofs.Told.{told-with}
-use Rattle.examiner.proofs.Worded.{visit-said, first-said, never-said, no-reason}
+use Rattle.examiner.specs.Exports.{onReason}
+use Rattle.examiner.proofs.Worded.{visit-said, first-said, never-said, no-reason, said-told, unsaid-told}
 use borrow.Author.Needs.{needs}
 use Rattle.examiner.proofs.examiner_word_reason.Statement.{statement}
 use Rattle.examiner.proofs.examiner_word_reason.Tie as tie
@@ -43,10 +38,7 @@ returns c =
     let w = c .before .before in
     let m = visit w in
     let a = m .before .before .args in
-    let t = w .word-told .ensures in
-    let text = a .text .now in
-    let o = visit-said (a .reason) (a .function) (λ r. wordSays r (length text)) (refusalOutcome (OutOfRange 0)) (m .match .keys1) in
-    told-with _ _ _ _ _ o (t .0) (t .1 .0) (t .1 .1 ∙ visit-said (a .reason) (a .function) (λ r. wordedBuffer r text) text (m .match .keys1))
+    said-told (λ A. onReason (a .reason) (a .function)) (a .text .now) (a .answer .now) _ (λ A said unknown. visit-said (a .reason) (a .function) said unknown (m .match .keys1)) (w .word-told .ensures)
 
 same-length-2 : tie.Need-same-length-2
 same-length-2 c = search needs
@@ -56,10 +48,7 @@ returns-2 c =
     let w = c .before .before in
     let m = first w in
     let a = m .before .before .args in
-    let t = w .word-told2 .ensures in
-    let text = a .text .now in
-    let o = first-said (a .reason) (a .function) (λ r. wordSays r (length text)) (refusalOutcome (OutOfRange 0)) (m .match .keys2) in
-    told-with _ _ _ _ _ o (t .0) (t .1 .0) (t .1 .1 ∙ first-said (a .reason) (a .function) (λ r. wordedBuffer r text) text (m .match .keys2))
+    said-told (λ A. onReason (a .reason) (a .function)) (a .text .now) (a .answer .now) _ (λ A said unknown. first-said (a .reason) (a .function) said unknown (m .match .keys2)) (w .word-told2 .ensures)
 
 same-length-3 : tie.Need-same-length-3
 same-length-3 c = search needs
@@ -69,20 +58,15 @@ returns-3 c =
     let w = c .before .before in
     let m = never w in
     let a = m .before .before .args in
-    let t = w .word-told3 .ensures in
-    let text = a .text .now in
-    let o = never-said (a .reason) (a .function) (λ r. wordSays r (length text)) (refusalOutcome (OutOfRange 0)) (m .match .keys3) in
-    told-with _ _ _ _ _ o (t .0) (t .1 .0) (t .1 .1 ∙ never-said (a .reason) (a .function) (λ r. wordedBuffer r text) text (m .match .keys3))
+    said-told (λ A. onReason (a .reason) (a .function)) (a .text .now) (a .answer .now) _ (λ A said unknown. never-said (a .reason) (a .function) said unknown (m .match .keys3)) (w .word-told3 .ensures)
 
 returns-4 : tie.Need-returns-4
 returns-4 c =
     let m = none c in
     let n = m .match .rest in
     let a = m .before .before .args in
-    let t = c .refuse .ensures in
-    let text = a .text .now in
-    let o = no-reason (a .reason) (a .function) (λ r. wordSays r (length text)) (refusalOutcome (OutOfRange 0)) (n .0 .0 .1) (n .0 .1) (n .1) in
-    told-with _ _ _ _ _ o (t .0) (t .1) (no-reason (a .reason) (a .function) (λ r. wordedBuffer r text) text (n .0 .0 .1) (n .0 .1) (n .1))
+    unsaid-told (λ A. onReason (a .reason) (a .function)) (a .text .now) (a .answer .now)
+    (λ A said unknown. no-reason (a .reason) (a .function) said unknown (n .0 .0 .1) (n .0 .1) (n .1)) (c .refuse .ensures)
 
 pub examiner-word-reason-spec : {M : Type 1} → statement M
 examiner-word-reason-spec =

@@ -1,11 +1,6 @@
 -- `examiner_word_refusal` refuses a number that is no refusal's, or words the refusal.
-use mathlib.Core.Path.{_∙_}
-use lib.ListN.{length}
-use Rattle.model.specs.declared.Refusal.the-variants.{OutOfRange}
-use Rattle.model.specs.Sentences.{wordedBuffer}
-use Rattle.model.specs.Outcomes.{refusalOutcome, wordSays}
-use Rattle.outcomes.proofs.Told.{told-with}
-use Rattle.examiner.proofs.Worded.{below-refusals, past-refusals, refusal-said}
+use Rattle.examiner.specs.Exports.{onRefusal}
+use Rattle.examiner.proofs.Worded.{below-refusals, past-refusals, refusal-said, said-told, unsaid-told}
 use borrow.Author.Needs.{needs}
 use Rattle.examiner.proofs.examiner_word_refusal.Statement.{statement}
 use Rattle.examiner.proofs.examiner_word_refusal.Tie as tie
@@ -21,10 +16,7 @@ returns : tie.Need-returns
 returns c =
     let l = c .before .before in
     let a = l .before .before .args in
-    let t = c .refuse .ensures in
-    let text = a .text .now in
-    let o = below-refusals (a .number) (a .place) (λ r. wordSays r (length text)) (refusalOutcome (OutOfRange 0)) (l .if1 .taken) in
-    told-with _ _ _ _ _ o (t .0) (t .1) (below-refusals (a .number) (a .place) (λ r. wordedBuffer r text) text (l .if1 .taken))
+    unsaid-told (λ A. onRefusal (a .number) (a .place)) (a .text .now) (a .answer .now) (λ A said unknown. below-refusals (a .number) (a .place) said unknown (l .if1 .taken)) (c .refuse .ensures)
 
 refuse-requires-2 : tie.Need-refuse-requires-2
 refuse-requires-2 c κs = search needs
@@ -33,10 +25,8 @@ returns-2 : tie.Need-returns-2
 returns-2 c =
     let h = c .before .before in
     let a = h .before .before .before .args in
-    let t = c .refuse2 .ensures in
-    let text = a .text .now in
-    let o = past-refusals (a .number) (a .place) (λ r. wordSays r (length text)) (refusalOutcome (OutOfRange 0)) (h .before .if1 .left) (h .if2 .taken) in
-    told-with _ _ _ _ _ o (t .0) (t .1) (past-refusals (a .number) (a .place) (λ r. wordedBuffer r text) text (h .before .if1 .left) (h .if2 .taken))
+    unsaid-told (λ A. onRefusal (a .number) (a .place)) (a .text .now) (a .answer .now)
+    (λ A said unknown. past-refusals (a .number) (a .place) said unknown (h .before .if1 .left) (h .if2 .taken)) (c .refuse2 .ensures)
 
 refusal-of-requires : tie.Need-refusal-of-requires
 refusal-of-requires c κs = search needs
@@ -53,10 +43,8 @@ returns-3 c =
     let k = known w in
     let e = k .before in
     let a = e .before .before .before .args in
-    let t = w .word-told .ensures in
-    let text = a .text .now in
-    let o = refusal-said (a .number) (a .place) (λ r. wordSays r (length text)) (refusalOutcome (OutOfRange 0)) _ (e .before .if1 .left) (e .if2 .left) (k .refusal-of .ensures) in
-    told-with _ _ _ _ _ o (t .0) (t .1 .0) (t .1 .1 ∙ refusal-said (a .number) (a .place) (λ r. wordedBuffer r text) text _ (e .before .if1 .left) (e .if2 .left) (k .refusal-of .ensures))
+    said-told (λ A. onRefusal (a .number) (a .place)) (a .text .now) (a .answer .now) _
+    (λ A said unknown. refusal-said (a .number) (a .place) said unknown _ (e .before .if1 .left) (e .if2 .left) (k .refusal-of .ensures)) (w .word-told .ensures)
 
 pub examiner-word-refusal-spec : {M : Type 1} → statement M
 examiner-word-refusal-spec =

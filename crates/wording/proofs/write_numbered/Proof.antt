@@ -9,6 +9,9 @@ use Rattle.wording.proofs.write_numbered.Tie as tie
 abbrev numbered : tie.After-write-text → tie.After-write-labelled
 numbered c = c .before .before .before
 
+abbrev start : tie.After-write-labelled → tie.Start
+start c = c .before .before .before
+
 abbrev parted : tie.After-write-phrase → tie.After-write-text
 parted c = c .before .before
 
@@ -41,7 +44,7 @@ unfolding text
 returns c =
     let p = phrased c in
     let b = parted p in
-    numbered-written _ _ (numbered b .write-labelled .ensures .0) (b .write-text .ensures) (p .write-phrase .ensures .0) (c .write-text2 .ensures)
+    numbered-written _ _ (start (numbered b) .pre) (numbered b .write-labelled .ensures .0) (b .write-text .ensures) (p .write-phrase .ensures .0) (c .write-text2 .ensures)
 
 pub write-numbered-spec : {M : Type 1} → statement M
 write-numbered-spec =

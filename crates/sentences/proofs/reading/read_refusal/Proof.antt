@@ -1,5 +1,4 @@
 -- `read_refusal` goes past the opening and reads the number.
-use Prim.Native.Nat.{_-_}
 use native.Mathlib.Omega.{arith}
 use Rattle.model.specs.Decimals.{text}
 use Rattle.model.specs.Refusals.{lastRefusal}
