@@ -5,10 +5,10 @@ use mathlib.Core.List.{List, [], _∷_, map}
 use mathlib.Core.Bool.{cond}
 use mathlib.Core.Option.{Option, some, none}
 use Rattle.model.specs.Graph.{loopsOf}
-use Rattle.model.specs.Costs.{ownCost, loadCost}
+use Rattle.model.specs.Costs.{ownCost, loadCost, checkCost}
 use Rattle.model.specs.Layouts.{regionOf}
 use Rattle.model.specs.Walks.{EdgeOf, lastVertex, Within}
-use Rattle.model.specs.Runs.{hit}
+use Rattle.model.specs.Runs.{hit, checkAt}
 use Rattle.model.specs.Drawings.{calledBy, graphOf}
 
 -- An activation of a function: the vertex that it is at, and those of its graph that it visited before, the latest first.
@@ -57,16 +57,19 @@ module _ (d : List ℕ) where
     pub run : Run (stack (frame 0 (lastVertex (graphOf d 0)) walk) []) h
     pub keeps : AllKeep (stack (frame 0 (lastVertex (graphOf d 0)) walk) [] ∷ h)
 
-  -- The own cost of the vertex that is visited, and a function's load cost.
+  -- The own cost of the vertex that is visited, and a function's load cost and check cost.
   abbrev pub ownOf : Stack → ℕ
   ownOf (stack a s) = ownCost (graphOf d (a .function)) (a .vertex)
 
   abbrev pub loadOf : ℕ → ℕ
   loadOf f = loadCost (graphOf d f) f
 
-  -- Simulated cycles of a run: document 01's, of the vertices that it visits.
+  abbrev pub checkOf : ℕ → ℕ
+  checkOf f = checkCost (graphOf d f) f
+
+  -- Simulated cycles of a run: those of a walk (Runs), of the vertices that it visits.
   unfoldable pub stackCycles : List ℕ → List Stack → ℕ
   stackCycles layout [] = 0
   stackCycles layout (s ∷ h) =
       stackCycles layout h
-      + (ownOf s + cond (hit (λ f. f) (regionOf layout) (running s) (map running h)) 0 (loadOf (running s)))
+      + (ownOf s + checkAt (λ f. f) checkOf (running s) (map running h) + cond (hit (λ f. f) (regionOf layout) (running s) (map running h)) 0 (loadOf (running s)))

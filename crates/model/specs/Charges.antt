@@ -3,14 +3,14 @@
 use Prim.Native.Nat.{ℕ, _+_}
 use mathlib.Core.Path.{_≡_}
 use mathlib.Core.List.{List, [], _∷_}
-use mathlib.Core.Bool.{Bool, true, cond, not, _&&_}
+use mathlib.Core.Bool.{Bool, true, cond, not, _&&_, _||_}
 use lib.ListN.{length}
 use lib.Dec.{eqb, ltb}
 use Rattle.model.specs.declared.Loop.{Loop}
 use Rattle.model.specs.declared.Problem.{Problem}
 use Rattle.model.specs.Search.{existsBelow}
-use Rattle.model.specs.Graph.{holds, loop, loopsOf}
-use Rattle.model.specs.Costs.{functionOf, ownCost, loadCost, total}
+use Rattle.model.specs.Graph.{edge, holds, loop, edgesOf, loopsOf}
+use Rattle.model.specs.Costs.{functionOf, ownCost, loadCost, checkCost, total}
 use Rattle.model.specs.Walks.{EdgeOf, weights}
 use Rattle.model.specs.Layouts.{regionOf}
 use Rattle.model.specs.Interference.{Contested, Early, Cold}
@@ -33,9 +33,18 @@ unfoldable pub outermost : List Loop → Loop → Bool
 outermost ls l = not (existsBelow (length ls) (λ i. ltb (loop ls i .header) (l .header) && holds (loop ls i) (l .header)))
 
 module _ (p : Problem) where
-  -- A vertex's *visit charge* is its own cost, plus its function's load cost if it is contested.
+  -- Edge i of the problem leads to v from a vertex of another function.
+  abbrev pub fromAnother : ℕ → ℕ → Bool
+  fromAnother v i = eqb (edge (edgesOf p) i .to) v && not (eqb (functionOf p (edge (edgesOf p) i .from)) (functionOf p v))
+
+  -- v is *entered*: it is vertex 0, or some edge of the problem leads to it from a vertex of another function.
+  unfoldable pub entered : ℕ → Bool
+  entered v = eqb v 0 || existsBelow (length (edgesOf p)) (fromAnother v)
+
+  -- A vertex's *visit charge* is its own cost, plus its function's check cost if it is entered, plus its function's load cost if it is contested.
   unfoldable pub visitCharge : (ℕ → Bool) → ℕ → ℕ
-  visitCharge contested v = ownCost p v + cond (contested v) (loadCost p (functionOf p v)) 0
+  visitCharge contested v =
+      ownCost p v + cond (entered v) (checkCost p (functionOf p v)) 0 + cond (contested v) (loadCost p (functionOf p v)) 0
 
   -- The *first loads*: the load cost of each cold function once.
   unfoldable pub firstLoads : (ℕ → Bool) → ℕ

@@ -12,6 +12,9 @@ sizeOf p f = getD (functionsOf p) f zeroFunction .size .0
 abbrev pub loadCost : Problem → ℕ → ℕ
 loadCost p f = getD (functionsOf p) f zeroFunction .load .0
 
+abbrev pub checkCost : Problem → ℕ → ℕ
+checkCost p f = getD (functionsOf p) f zeroFunction .check .0
+
 abbrev pub functionOf : Problem → ℕ → ℕ
 functionOf p v = getD (verticesOf p) v zeroVertex .function
 

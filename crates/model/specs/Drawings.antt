@@ -1,4 +1,4 @@
--- Drawings (2/14): one graph per function, where a vertex may call another function, as 44,194 numbers at fixed places: 0 scratchpad size, 1 number of
+-- Drawings (2/14): one graph per function, where a vertex may call another function, as 44,226 numbers at fixed places: 0 scratchpad size, 1 number of
 -- functions, and each function's numbers behind those of the function before. What stands past a count is spare.
 use Prim.Native.Nat.{ℕ, _+_, _-_, _*_}
 use mathlib.Core.List.{List}
@@ -19,15 +19,18 @@ use Rattle.model.specs.Numbers.{table}
 abbrev pub functionsPlace : ℕ
 functionsPlace = 2
 
--- Among a function's numbers stand its size and its load cost, and then its graph, as a problem's numbers stand from the number of vertices on.
+-- Among a function's numbers stand its size, its load cost and its check cost, and then its graph, as a problem's numbers stand from the number of vertices on.
 abbrev pub sizePlace : ℕ
 sizePlace = 0
 
 abbrev pub loadPlace : ℕ
 loadPlace = sizePlace + 1
 
+abbrev pub checkPlace : ℕ
+checkPlace = loadPlace + 1
+
 abbrev pub graphPlace : ℕ
-graphPlace = loadPlace + 1
+graphPlace = checkPlace + 1
 
 -- Where the number at a place of a problem stands among a function's.
 abbrev pub drawnPlace : ℕ → ℕ
@@ -78,10 +81,10 @@ module _ (d : List ℕ) where
   unfoldable pub calledBy : ℕ → ℕ → Option ℕ
   calledBy f v = calleeOf (drawnItem f places.function places.vertexWidth v)
 
-  -- The graph drawn for f, as a problem of document 01: every function has f's size and load cost, and the function of a vertex is the one that it
+  -- The graph drawn for f, as a problem of document 01: every function has f's size, load cost and check cost, and the function of a vertex is the one that it
   -- calls, 0 where it calls none.
   abbrev pub drawnFunction : ℕ → Function
-  drawnFunction f = record { size = bytes (drawnAt f sizePlace); load = cycles (drawnAt f loadPlace) }
+  drawnFunction f = record { size = bytes (drawnAt f sizePlace); load = cycles (drawnAt f loadPlace); check = cycles (drawnAt f checkPlace) }
 
   abbrev pub drawnVertex : ℕ → ℕ → Vertex
   drawnVertex f v = record { function = orFirst (calledBy f v); cost = cycles (drawnItem f places.cost places.vertexWidth v) }

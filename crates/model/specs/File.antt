@@ -11,6 +11,7 @@ use Rattle.model.specs.declared.Field.{Field}
 use Rattle.model.specs.declared.FieldsAnswer.{FieldsAnswer}
 use Rattle.model.specs.declared.FieldsAnswer.the-variants.{Done, Refused}
 use Rattle.model.specs.Spelling.{mostGroups, readNumber, numberSize, numberBytes}
+use Rattle.model.specs.Limits.{firstEdition}
 use Rattle.model.specs.Numbers.{table}
 use Rattle.model.specs.Table.{least, greatest, base, kind, jump, countOver, countKind, firstKind, lastKind}
 use Rattle.model.specs.Places as places
@@ -51,6 +52,24 @@ nextField c v =
     (cond (eqb (kind (c .row)) lastKind) (afterItem c)
     (record { row = c .row + 1; place = c .place + 1; left = c .left }))
 
+-- The edition is a matter of spelling (9/14): an edition 1 file has no byte for a check cost, which is 0 then.
+unfoldable pub unwritten : ℕ → Field → Bool
+unwritten edition c = eqb (c .row) rows.check && eqb edition firstEdition
+
+-- The number at a field, read at a position, with the position after it; how many bytes its shortest spelling takes, and that spelling.
+unfoldable pub readField : ℕ → List ℕ → ℕ → Field → spelt.Number
+readField edition s at c = cond (unwritten edition c) (number.Value 0 at) (readNumber s at)
+
+unfoldable pub fieldSize : ℕ → Field → ℕ → ℕ
+fieldSize edition c v = cond (unwritten edition c) 0 (numberSize v)
+
+unfoldable pub fieldBytes : ℕ → Field → ℕ → List ℕ
+fieldBytes edition c v = cond (unwritten edition c) [] (numberBytes v)
+
+-- The edition of the numbers l: their first.
+abbrev pub editionIn : List ℕ → ℕ
+editionIn l = getD l places.edition 0
+
 -- Where a count read earlier narrows the row: v stays below it.
 unfoldable pub belowCount : List ℕ → ℕ → ℕ → Bool
 belowCount l row v = eqb (countOver row) 0 || ltb v (getD l (countOver row) 0)
@@ -59,9 +78,13 @@ belowCount l row v = eqb (countOver row) 0 || ltb v (getD l (countOver row) 0)
 unfoldable pub fromHeader : List ℕ → Field → ℕ → Bool
 fromHeader l c v = not (eqb (c .row) rows.last) || leb (getD l (c .place - (places.last - places.header)) 0) v
 
+-- What is not written is 0.
+unfoldable pub zeroUnwritten : List ℕ → Field → ℕ → Bool
+zeroUnwritten l c v = not (unwritten (editionIn l) c) || eqb v 0
+
 -- Whether v may stand at c, where l has the numbers before it.
 unfoldable pub inRange : List ℕ → Field → ℕ → Bool
-inRange l c v = leb (least (c .row)) v && (leb v (greatest (c .row)) && (belowCount l (c .row) v && fromHeader l c v))
+inRange l c v = leb (least (c .row)) v && (leb v (greatest (c .row)) && (belowCount l (c .row) v && (fromHeader l c v && zeroUnwritten l c v)))
 
 -- Edges ascend strictly by (from, to).
 unfoldable pub edgeBefore : ℕ → ℕ → ℕ → ℕ → Bool
@@ -105,7 +128,7 @@ unfoldable pub readFrom : ℕ → List ℕ → ℕ → ℕ → Field → List �
 readFrom zero s at start c l = scanned (Done at) l
 readFrom (suc n) s at start c l =
     cond (atEnd c) (scanned (Done at) l)
-    (onNumber (readNumber s at) (length s) at l (λ v next.
+    (onNumber (readField (editionIn l) s at c) (length s) at l (λ v next.
     cond (inRange l c v)
     (cond (ascends (set l (c .place) v) c)
     (readFrom n s next (itemStart c at start) (nextField c v) (set l (c .place) v))
@@ -122,7 +145,7 @@ checkFrom (suc n) at start c l =
     cond (atEnd c) (Done at)
     (cond (inRange l c (getD l (c .place) 0))
     (cond (ascends l c)
-    (checkFrom n (at + numberSize (getD l (c .place) 0)) (itemStart c at start) (nextField c (getD l (c .place) 0)) l)
+    (checkFrom n (at + fieldSize (editionIn l) c (getD l (c .place) 0)) (itemStart c at start) (nextField c (getD l (c .place) 0)) l)
     (Refused (refusal.NotAscending (itemStart c at start))))
     (Refused (refusal.OutOfRange at)))
 
@@ -133,7 +156,7 @@ checkFields l = checkFrom numberCount 0 0 firstField l
 unfoldable pub bytesFrom : ℕ → Field → List ℕ → List ℕ
 bytesFrom zero c l = []
 bytesFrom (suc n) c l =
-    cond (atEnd c) [] (numberBytes (getD l (c .place) 0) ++ bytesFrom n (nextField c (getD l (c .place) 0)) l)
+    cond (atEnd c) [] (fieldBytes (editionIn l) c (getD l (c .place) 0) ++ bytesFrom n (nextField c (getD l (c .place) 0)) l)
 
 -- The file of a problem's numbers.
 abbrev pub fileBytes : List ℕ → List ℕ

@@ -16,7 +16,7 @@ mostLoops = 32
 
 -- How many numbers an item has.
 abbrev pub functionWidth : ℕ
-functionWidth = 2
+functionWidth = 3
 
 abbrev pub vertexWidth : ℕ
 vertexWidth = 2
@@ -34,7 +34,7 @@ edition = 0
 abbrev pub scratchpad : ℕ
 scratchpad = edition + 1
 
--- The number of functions, a function's size and its load cost.
+-- The number of functions, a function's size, its load cost and its check cost.
 abbrev pub functionCount : ℕ
 functionCount = scratchpad + 1
 
@@ -43,6 +43,9 @@ size = functionCount + 1
 
 abbrev pub load : ℕ
 load = size + 1
+
+abbrev pub check : ℕ
+check = load + 1
 
 -- The number of vertices, a vertex's function and its own cost.
 abbrev pub vertexCount : ℕ

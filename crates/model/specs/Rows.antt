@@ -8,7 +8,7 @@ edition = 0
 abbrev pub scratchpad : ℕ
 scratchpad = edition + 1
 
--- The number of functions, a function's size and its load cost.
+-- The number of functions, a function's size, its load cost and its check cost.
 abbrev pub functionCount : ℕ
 functionCount = scratchpad + 1
 
@@ -18,9 +18,12 @@ size = functionCount + 1
 abbrev pub load : ℕ
 load = size + 1
 
+abbrev pub check : ℕ
+check = load + 1
+
 -- The number of vertices, a vertex's function and its own cost.
 abbrev pub vertexCount : ℕ
-vertexCount = load + 1
+vertexCount = check + 1
 
 abbrev pub function : ℕ
 function = vertexCount + 1

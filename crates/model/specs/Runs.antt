@@ -5,7 +5,7 @@ use mathlib.Core.Bool.{Bool, false, cond}
 use mathlib.Core.Option.{Option, some, none}
 use lib.Dec.{eqb}
 use Rattle.model.specs.declared.Problem.{Problem}
-use Rattle.model.specs.Costs.{functionOf, ownCost, loadCost}
+use Rattle.model.specs.Costs.{functionOf, ownCost, loadCost, checkCost}
 use Rattle.model.specs.Layouts.{regionOf}
 
 module _ (fn : ℕ → ℕ) (region : ℕ → ℕ) where
@@ -22,12 +22,19 @@ module _ (fn : ℕ → ℕ) (region : ℕ → ℕ) where
   abbrev pub hit : ℕ → List ℕ → Bool
   hit v h = isHeld (held (region (fn v)) h) (fn v)
 
+module _ (fn check : ℕ → ℕ) where
+  -- The *region check* (9/14): a run pays a function's check cost on its first visit, and on each visit that comes from another function.
+  unfoldable pub checkAt : ℕ → List ℕ → ℕ
+  checkAt v [] = check (fn v)
+  checkAt v (u ∷ h) = cond (eqb (fn u) (fn v)) 0 (check (fn v))
+
 module _ (p : Problem) (layout : List ℕ) where
-  -- *Simulated cycles*: a visit costs its own cost, plus the load cost if its function is not the one held in its region.
+  -- *Simulated cycles*: a visit costs its own cost, plus its region check, plus the load cost if its function is not the one held in its region.
   unfoldable pub cycles : List ℕ → ℕ
   cycles [] = 0
   cycles (v ∷ h) =
-      cycles h + (ownCost p v + cond (hit (functionOf p) (regionOf layout) v h) 0 (loadCost p (functionOf p v)))
+      cycles h
+      + (ownCost p v + checkAt (functionOf p) (checkCost p) v h + cond (hit (functionOf p) (regionOf layout) v h) 0 (loadCost p (functionOf p v)))
 
   -- Loads, counted as they occur.
   unfoldable pub loads : List ℕ → ℕ

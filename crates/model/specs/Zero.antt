@@ -14,7 +14,7 @@ abbrev pub cycles : ℕ → Cycles
 cycles n = record { 0 = n }
 
 abbrev pub zeroFunction : Function
-zeroFunction = record { size = bytes 0; load = cycles 0 }
+zeroFunction = record { size = bytes 0; load = cycles 0; check = cycles 0 }
 
 abbrev pub zeroVertex : Vertex
 zeroVertex = record { function = 0; cost = cycles 0 }

@@ -7,12 +7,14 @@ pub const FUNCTION_COUNT: usize = SCRATCHPAD + 1;
 
 pub const FUNCTIONS: usize = FUNCTION_COUNT + 1;
 
-// Among a function's numbers: its size, its load cost, and its graph, as a problem's numbers stand from the number of vertices on.
+// Among a function's numbers: its size, its load cost, its check cost, and its graph, as a problem's numbers stand from the number of vertices on.
 pub const SIZE: usize = 0;
 
 pub const LOAD: usize = SIZE + 1;
 
-pub const GRAPH: usize = LOAD + 1;
+pub const CHECK: usize = LOAD + 1;
+
+pub const GRAPH: usize = CHECK + 1;
 
 pub const CALLEE: usize = GRAPH + places::FUNCTION - places::VERTEX_COUNT;
 

@@ -18,6 +18,7 @@ pub struct Cycles(pub u64);
 pub struct Function {
     pub size: Bytes,
     pub load: Cycles,
+    pub check: Cycles,
 }
 
 pub struct Vertex {

@@ -1,7 +1,14 @@
-// The greatest value of a number that no list's room limits (a size, a cost, a loop's bound), the number of regions, and the limits of answers.
+// The editions of the file. The first has no check costs.
+pub const FIRST_EDITION: usize = 1;
+
+pub const SECOND_EDITION: usize = 2;
+
+// The greatest value of a number that no list's room limits (a size, a cost, a check cost, a loop's bound), the number of regions, and the limits of answers.
 pub const MOST_BYTES: usize = 16777215;
 
 pub const MOST_CYCLES: usize = 16777215;
+
+pub const MOST_CHECK: usize = 65535;
 
 pub const MOST_VISITS: usize = 4096;
 

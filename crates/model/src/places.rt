@@ -9,7 +9,7 @@ pub const MOST_EDGES: usize = 512;
 
 pub const MOST_LOOPS: usize = 32;
 
-pub const FUNCTION_WIDTH: usize = 2;
+pub const FUNCTION_WIDTH: usize = 3;
 
 pub const VERTEX_WIDTH: usize = 2;
 
@@ -27,6 +27,8 @@ pub const FUNCTION_COUNT: usize = SCRATCHPAD + 1;
 pub const SIZE: usize = FUNCTION_COUNT + 1;
 
 pub const LOAD: usize = SIZE + 1;
+
+pub const CHECK: usize = LOAD + 1;
 
 pub const VERTEX_COUNT: usize = SIZE + FUNCTION_WIDTH * MOST_FUNCTIONS;
 

@@ -9,7 +9,9 @@ pub const SIZE: usize = FUNCTION_COUNT + 1;
 
 pub const LOAD: usize = SIZE + 1;
 
-pub const VERTEX_COUNT: usize = LOAD + 1;
+pub const CHECK: usize = LOAD + 1;
+
+pub const VERTEX_COUNT: usize = CHECK + 1;
 
 pub const FUNCTION: usize = VERTEX_COUNT + 1;
 
