@@ -9,7 +9,7 @@ use lib.Dec.{eqb}
 use borrow.Author.Tests.{le-leb, lt-ltb, ne-eqb}
 use Rattle.model.specs.declared.Field.{Field}
 use Rattle.model.specs.Table.{limits, bases, kinds, jumps, counts}
-use Rattle.model.specs.File.{nextField, afterItem, belowCount, fromHeader, inRange, edgeBefore, edgeSpan, ascends}
+use Rattle.model.specs.File.{nextField, afterItem, unwritten, belowCount, fromHeader, zeroUnwritten, inRange, edgeBefore, edgeSpan, ascends}
 use Rattle.model.proofs.Cases.{by-cond}
 use Rattle.fields.specs.Valid.{Valid, field}
 use Rattle.fields.proofs.Laws.{edge-ascends}
@@ -21,11 +21,11 @@ use Rattle.model.specs.Rows as rows
 module _ (l : List ℕ) (q left v : ℕ) where
   module _ (h : v < getD l places.vertexCount 0) (few : getD l places.vertexCount 0 ≤ places.mostVertices) where
     pub from-ranged : inRange l (field rows.from q left) v ≡ true
-    unfolding inRange belowCount fromHeader limits counts
+    unfolding inRange belowCount fromHeader zeroUnwritten unwritten limits counts
     from-ranged = simp (le-leb 0 v (omega arith), le-leb v (places.mostVertices - 1) (omega arith), lt-ltb v (getD l places.vertexCount 0) h)
 
     pub to-ranged : inRange l (field rows.to q left) v ≡ true
-    unfolding inRange belowCount fromHeader limits counts
+    unfolding inRange belowCount fromHeader zeroUnwritten unwritten limits counts
     to-ranged = simp (le-leb 0 v (omega arith), le-leb v (places.mostVertices - 1) (omega arith), lt-ltb v (getD l places.vertexCount 0) h)
 
   pub from-ascends : ascends l (field rows.from q left) ≡ true

@@ -9,10 +9,11 @@ use borrow.Author.Tests.{lt-ltb}
 use Rattle.model.specs.declared.Field.{Field}
 use Rattle.model.specs.Table.{kinds}
 use Rattle.model.specs.Spelling.{numberSize}
-use Rattle.model.specs.File.{edgeSpan, itemStart, checkFrom}
+use Rattle.model.specs.File.{editionIn, edgeSpan, itemStart, checkFrom}
 use Rattle.fields.specs.Valid.{Valid, field}
 use Rattle.fields.proofs.Steps.{ranged-later}
 use Rattle.fields.proofs.OneField.{Passed, check-on}
+use Rattle.fields.proofs.Editions.{plainly-sized}
 use Rattle.edge_runs.specs.Edges.{secondEdge, Opens, EdgesChecked}
 use Rattle.edge_runs.proofs.Edges.{Between, from-ranged, to-ranged, from-ascends, from-next, to-next, ordered, opened}
 use Rattle.model.specs.Places as places
@@ -48,8 +49,8 @@ module _ (l : List ℕ) (q left : ℕ) where
     two-checked : (n at start : ℕ) → checkFrom (suc (suc n)) at start (field rows.from q left) l ≡ checkFrom n (at + 1 + 1) at (field rows.from (q + 1 + 1) (left - 1)) l
     unfolding itemStart kinds
     two-checked n at start =
-        let from-size = one-byte-size from (omega (arith, e .follows .from-vertex, e .few)) in
-        let to-size = one-byte-size to (omega (arith, e .follows .to-vertex, e .few)) in
+        let from-size = plainly-sized (editionIn l) (field rows.from q left) (λ q. omega arith) from ∙ one-byte-size from (omega (arith, e .follows .from-vertex, e .few)) in
+        let to-size = plainly-sized (editionIn l) (field rows.to (q + 1) left) (λ q. omega arith) to ∙ one-byte-size to (omega (arith, e .follows .to-vertex, e .few)) in
         rw (from-size, from-next l q left from) at (check-on l at start (field rows.from q left) (suc n) (omega arith) from-passed)
         ∙ rw (to-size, to-next l (q + 1) left to (e .more)) at (check-on l (at + 1) at (field rows.to (q + 1) left) n (omega arith) to-passed)
 

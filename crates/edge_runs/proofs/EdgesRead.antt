@@ -11,12 +11,13 @@ use Rattle.model.specs.declared.Field.{Field}
 use Rattle.model.specs.declared.Number.the-variants as number
 use Rattle.model.specs.Spelling.{readNumber}
 use Rattle.model.specs.Table.{kinds, kind, firstKind}
-use Rattle.model.specs.File.{numberCount, edgeSpan, ascends, itemStart, inRange, readFrom}
+use Rattle.model.specs.File.{numberCount, editionIn, edgeSpan, ascends, itemStart, inRange, readFrom}
 use Rattle.spelling.proofs.Laws.{one-byte}
 use Rattle.spelling.proofs.Prefix.{number-ends}
 use Rattle.fields.specs.Valid.{Valid, field}
 use Rattle.fields.proofs.Steps.{ranged-later}
 use Rattle.fields.proofs.OneField.{read-on}
+use Rattle.fields.proofs.Editions.{plainly-read}
 use Rattle.edge_runs.specs.Edges.{secondEdge, Opens, Follows, Readable, PairsRead, AtItem, ItemTaken, EdgesRead}
 use Rattle.edge_runs.proofs.Items.{item-read, none-read, two-runs, one-taken}
 use Rattle.edge_runs.proofs.Edges.{Between, between, from-ranged, to-ranged, from-ascends, from-next, to-next, ordered, edge-room, opened}
@@ -67,9 +68,9 @@ module _ {s l : List ℕ} {pos q left : ℕ} (e : EdgeFound s l pos q left) wher
   two-read : (n start : ℕ) → readFrom (suc (suc n)) s pos start (field rows.from q left) l ≡ readFrom n s (e .next) pos (field rows.from (q + 1 + 1) (left - 1)) whole
   unfolding itemStart kinds
   two-read n start =
-      read-on s pos start (field rows.from q left) l (suc n) (omega arith) (e .from) (e .middle) (e .from-read) from-good (from-ascends half q left 0)
+      read-on s pos start (field rows.from q left) l (suc n) (omega arith) (e .from) (e .middle) (plainly-read (editionIn l) (field rows.from q left) (λ h. omega arith) s pos ∙ e .from-read) from-good (from-ascends half q left 0)
       ∙ ap (λ (d : Field). readFrom (suc n) s (e .middle) pos d half) (from-next l q left (e .from))
-      ∙ read-on s (e .middle) pos (field rows.to (q + 1) left) half n (omega arith) (e .to) (e .next) (e .to-read) to-good to-ascends
+      ∙ read-on s (e .middle) pos (field rows.to (q + 1) left) half n (omega arith) (e .to) (e .next) (plainly-read (editionIn half) (field rows.to (q + 1) left) (λ h. omega arith) s (e .middle) ∙ e .to-read) to-good to-ascends
       ∙ ap (λ (d : Field). readFrom n s (e .next) pos d whole) (to-next l (q + 1) left (e .to) (e .between .more))
 
   two-valid : Valid (field rows.from q left) → Valid (field rows.from (q + 1 + 1) (left - 1))

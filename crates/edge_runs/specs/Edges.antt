@@ -10,7 +10,7 @@ use Rattle.fields.specs.Valid.{Valid}
 use Rattle.model.specs.Places as places
 use Rattle.model.specs.Rows as rows
 
--- The field k items further on in its list, where an item has two numbers: functions and vertices have as many as edges.
+-- The field k items further on in its list, where an item has two numbers: vertices have as many as edges.
 abbrev pub pastPairs : Field → ℕ → Field
 pastPairs c k = record { row = c .row; place = c .place + places.edgeWidth * k; left = c .left - k }
 

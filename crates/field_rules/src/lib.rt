@@ -9,7 +9,7 @@ ghost use Prim.Native.Nat.{_<_};
 ghost use Rattle.fields.specs.Valid.{Placed};
 ghost use Rattle.fields.specs.Rows.{entries};
 ghost use Rattle.model.specs.Rows;
-ghost use Rattle.model.specs.File.{inRange, belowCount, fromHeader, edgeBefore};
+ghost use Rattle.model.specs.File.{inRange, belowCount, fromHeader, zeroUnwritten, edgeBefore};
 
 // How far behind an item's first number its last stands, and behind the first number of the item before.
 pub const EDGE_SPAN: usize = places::TO - places::FROM;
@@ -48,6 +48,16 @@ fn from_header(l: &Numbers, c: Field, v: u64) -> bool
     true
 }
 
+// What is not written is 0.
+fn zero_unwritten(l: &Numbers, c: Field, v: u64) -> bool
+    ensures { λ r. ⌜ r ≡ zeroUnwritten (now (l .entry)) c v ⌝ }
+{
+    if editions::unwritten(l[places::EDITION], c) {
+        return v == 0;
+    }
+    true
+}
+
 // Whether v may stand at c, where l has the numbers before it.
 pub fn in_range(table: &Table, l: &Numbers, c: Field, v: u64) -> bool
     requires { ⌜ now table ≡ entries ⌝ }
@@ -63,7 +73,10 @@ pub fn in_range(table: &Table, l: &Numbers, c: Field, v: u64) -> bool
     if !below_count(table, l, c.row, v) {
         return false;
     }
-    from_header(l, c, v)
+    if !from_header(l, c, v) {
+        return false;
+    }
+    zero_unwritten(l, c, v)
 }
 
 // Edges ascend strictly by (from, to).

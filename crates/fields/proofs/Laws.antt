@@ -9,7 +9,7 @@ use lib.Dec.{eqb, ltb, leb}
 use borrow.Author.Tests.{eq-eqb, ne-eqb, lt-ltb, le-ltb, lt-leb, le-leb}
 use Rattle.model.specs.declared.Field.{Field}
 use Rattle.model.specs.Table.{bases, base, kinds, kind, countKind, firstKind, lastKind, jump, countOver, least, greatest}
-use Rattle.model.specs.File.{afterCount, afterItem, nextField, belowCount, fromHeader, inRange, edgeBefore, edgeSpan, loopSpan, ascends, itemStart}
+use Rattle.model.specs.File.{afterCount, afterItem, nextField, editionIn, unwritten, belowCount, fromHeader, zeroUnwritten, inRange, edgeBefore, edgeSpan, loopSpan, ascends, itemStart}
 use Rattle.model.proofs.Cases.{by-bool}
 use Rattle.fields.proofs.Rows.{jump-below, count-below}
 use Rattle.model.specs.Places as places
@@ -82,6 +82,14 @@ module _ (l : List ℕ) where
     unfolding fromHeader
     any-header q = simp (ne-eqb (c .row) rows.last q)
 
+    pub must-be-zero : unwritten (editionIn l) c ≡ true → eqb v 0 ≡ zeroUnwritten l c v
+    unfolding zeroUnwritten
+    must-be-zero q = simp q
+
+    pub may-be-any : unwritten (editionIn l) c ≡ false → true ≡ zeroUnwritten l c v
+    unfolding zeroUnwritten
+    may-be-any q = simp q
+
     pub too-low : v < least (c .row) → false ≡ inRange l c v
     unfolding inRange
     too-low h = simp (lt-leb (least (c .row)) v h)
@@ -96,9 +104,14 @@ module _ (l : List ℕ) where
         unfolding inRange
         past-count e = simp (le-leb (least (c .row)) v low, le-leb v (greatest (c .row)) high, e)
 
-        pub within : belowCount l (c .row) v ≡ true → fromHeader l c v ≡ inRange l c v
-        unfolding inRange
-        within e = simp (le-leb (least (c .row)) v low, le-leb v (greatest (c .row)) high, e)
+        module _ (below : belowCount l (c .row) v ≡ true) where
+          pub past-header : fromHeader l c v ≡ false → false ≡ inRange l c v
+          unfolding inRange
+          past-header e = simp (le-leb (least (c .row)) v low, le-leb v (greatest (c .row)) high, below, e)
+
+          pub within : fromHeader l c v ≡ true → zeroUnwritten l c v ≡ inRange l c v
+          unfolding inRange
+          within e = simp (le-leb (least (c .row)) v low, le-leb v (greatest (c .row)) high, below, e)
 
 module _ (from to from′ to′ : ℕ) where
   pub higher : from < from′ → true ≡ edgeBefore from to from′ to′

@@ -1,4 +1,5 @@
 pub mod Rows
 pub mod Laws
+pub mod Editions
 pub mod Steps
 pub mod OneField

@@ -11,8 +11,7 @@ use Rattle.model.specs.declared.Number.the-variants as number
 use Rattle.model.specs.declared.Field.{Field}
 use Rattle.model.specs.declared.FieldsAnswer.{FieldsAnswer}
 use Rattle.model.specs.declared.FieldsAnswer.the-variants.{Done, Refused}
-use Rattle.model.specs.Spelling.{readNumber, numberSize, numberBytes}
-use Rattle.model.specs.File.{atEnd, nextField, inRange, ascends, itemStart, scanned, readFrom, checkFrom, bytesFrom}
+use Rattle.model.specs.File.{atEnd, nextField, editionIn, readField, fieldSize, fieldBytes, inRange, ascends, itemStart, scanned, readFrom, checkFrom, bytesFrom}
 use Rattle.model.proofs.Answers.{refused-not-done}
 use Rattle.fields.specs.Fill.{fillFrom}
 use Rattle.model.specs.Rows as rows
@@ -25,15 +24,15 @@ module _ (s : List ℕ) (at start : ℕ) (c : Field) (l : List ℕ) where
   read-done (suc n) h = simp (le-leb rows.end (c .row) h)
 
   module _ (n : ℕ) (h : c .row < rows.end) where
-    pub read-ended : readNumber s at ≡ number.Ended → readFrom (suc n) s at start c l ≡ scanned (Refused (refusal.EndsEarly (length s))) l
+    pub read-ended : readField (editionIn l) s at c ≡ number.Ended → readFrom (suc n) s at start c l ≡ scanned (Refused (refusal.EndsEarly (length s))) l
     unfolding readFrom
     read-ended e = simp (lt-leb rows.end (c .row) h, e)
 
-    pub read-misspelt : readNumber s at ≡ number.Misspelt → readFrom (suc n) s at start c l ≡ scanned (Refused (refusal.Misspelt at)) l
+    pub read-misspelt : readField (editionIn l) s at c ≡ number.Misspelt → readFrom (suc n) s at start c l ≡ scanned (Refused (refusal.Misspelt at)) l
     unfolding readFrom
     read-misspelt e = simp (lt-leb rows.end (c .row) h, e)
 
-    module _ (v next : ℕ) (e : readNumber s at ≡ number.Value v next) where
+    module _ (v next : ℕ) (e : readField (editionIn l) s at c ≡ number.Value v next) where
       pub read-out : inRange l c v ≡ false → readFrom (suc n) s at start c l ≡ scanned (Refused (refusal.OutOfRange at)) l
       unfolding readFrom
       read-out f = simp (lt-leb rows.end (c .row) h, e, f)
@@ -74,12 +73,12 @@ module _ (l : List ℕ) where
       unfolding checkFrom
       check-disorder f g = simp (lt-leb rows.end (c .row) h, f, g)
 
-      pub check-on : Passed c → checkFrom (suc n) at start c l ≡ checkFrom n (at + numberSize (getD l (c .place) 0)) (itemStart c at start) (nextField c (getD l (c .place) 0)) l
+      pub check-on : Passed c → checkFrom (suc n) at start c l ≡ checkFrom n (at + fieldSize (editionIn l) c (getD l (c .place) 0)) (itemStart c at start) (nextField c (getD l (c .place) 0)) l
       unfolding checkFrom
       check-on p = simp (lt-leb rows.end (c .row) h, p .in-range, p .ascending)
 
   pub checked : (n at start end : ℕ) (c : Field) → c .row < rows.end → checkFrom (suc n) at start c l ≡ Done end →
-      Passed c × (checkFrom n (at + numberSize (getD l (c .place) 0)) (itemStart c at start) (nextField c (getD l (c .place) 0)) l ≡ Done end)
+      Passed c × (checkFrom n (at + fieldSize (editionIn l) c (getD l (c .place) 0)) (itemStart c at start) (nextField c (getD l (c .place) 0)) l ≡ Done end)
   unfolding checkFrom
   checked n at start end c h e =
       let f = went-on (inRange l c (getD l (c .place) 0)) _ _ end (rw (lt-leb rows.end (c .row) h) at e) in
@@ -96,7 +95,7 @@ module _ (n : ℕ) (c : Field) (l : List ℕ) where
   fill-over m e = simp e
 
   module _ (v : ℕ) (going : atEnd c ≡ false) (here : getD l (c .place) 0 ≡ v) where
-    pub bytes-on : bytesFrom (suc n) c l ≡ numberBytes v ++ bytesFrom n (nextField c v) l
+    pub bytes-on : bytesFrom (suc n) c l ≡ fieldBytes (editionIn l) c v ++ bytesFrom n (nextField c v) l
     unfolding bytesFrom
     bytes-on = simp (going, here)
 

@@ -10,7 +10,7 @@ use Rattle.model.specs.declared.Field.{Field}
 use Rattle.model.specs.Table.{limits, bases, kinds, jumps, least, greatest, jump}
 use Rattle.model.specs.File.{rowStart, afterCount, afterItem, nextField, inRange}
 use Rattle.model.proofs.Cases.{by-cond, and-left, and-right}
-use Rattle.fields.specs.Valid.{Placed, Valid, field, edition, scratchpad, functions, size, load, vertices, function, cost, edges, from, to, loops, header, last, bound, end}
+use Rattle.fields.specs.Valid.{Placed, Valid, field, edition, scratchpad, functions, size, load, check, vertices, function, cost, edges, from, to, loops, header, last, bound, end}
 use Rattle.model.specs.Rows as rows
 
 -- A valid field at an equal place, with as many items left.
@@ -24,6 +24,7 @@ placed scratchpad h = record { row = h; place = omega arith; above = omega arith
 placed functions h = record { row = h; place = omega arith; above = omega arith }
 placed (size i left f) h = record { row = h; place = omega arith; above = omega arith }
 placed (load i left f) h = record { row = h; place = omega arith; above = omega arith }
+placed (check i left f) h = record { row = h; place = omega arith; above = omega arith }
 placed vertices h = record { row = h; place = omega arith; above = omega arith }
 placed (function i left f) h = record { row = h; place = omega arith; above = omega arith }
 placed (cost i left f) h = record { row = h; place = omega arith; above = omega arith }
@@ -59,7 +60,8 @@ next-later scratchpad v h g = record { valid = functions; higher = omega arith }
 next-later functions v h g =
     after-count (Later _) _ v (λ e. record { valid = vertices; higher = omega arith }) (λ k. record { valid = at (size 0 (v - 1) (omega arith)) refl refl; higher = omega arith })
 next-later (size i left f) v h g = record { valid = at (load i left f) (omega arith) refl; higher = omega arith }
-next-later (load i left f) v h g =
+next-later (load i left f) v h g = record { valid = at (check i left f) (omega arith) refl; higher = omega arith }
+next-later (check i left f) v h g =
     after-item (Later _) _ (λ e. record { valid = vertices; higher = omega arith }) (λ k. record { valid = at (size (i + 1) (left - 1) (omega arith)) (omega arith) refl; higher = omega arith })
 next-later vertices v h g =
     after-count (Later _) _ v (λ e. record { valid = edges; higher = omega arith }) (λ k. record { valid = at (function 0 (v - 1) (omega arith)) refl refl; higher = omega arith })

@@ -14,6 +14,7 @@ pub data Valid : Field → Type 0 where
   functions : Valid (field rows.functionCount places.functionCount 0)
   size : (i left : ℕ) → i + left < places.mostFunctions → Valid (field rows.size (places.size + places.functionWidth * i) left)
   load : (i left : ℕ) → i + left < places.mostFunctions → Valid (field rows.load (places.load + places.functionWidth * i) left)
+  check : (i left : ℕ) → i + left < places.mostFunctions → Valid (field rows.check (places.check + places.functionWidth * i) left)
   vertices : Valid (field rows.vertexCount places.vertexCount 0)
   function : (i left : ℕ) → i + left < places.mostVertices → Valid (field rows.function (places.function + places.vertexWidth * i) left)
   cost : (i left : ℕ) → i + left < places.mostVertices → Valid (field rows.cost (places.cost + places.vertexWidth * i) left)

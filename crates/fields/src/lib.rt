@@ -1,9 +1,12 @@
 // The field table of the problem file, and going through its fields in order. Reading and writing alike use these.
 use model::Field;
 use model::Numbers;
+use model::limits::FIRST_EDITION;
 use model::limits::MOST_BYTES;
+use model::limits::MOST_CHECK;
 use model::limits::MOST_CYCLES;
 use model::limits::MOST_VISITS;
+use model::limits::SECOND_EDITION;
 use model::places;
 use model::places::MOST_EDGES;
 use model::places::MOST_FUNCTIONS;
@@ -62,11 +65,12 @@ pub type Table = [[usize; COLUMNS]; rows::END + 1];
 
 const TABLE: Table = [
     // least, greatest, base, kind, jump, under
-    [1, 1, places::EDITION, ALONE, 0, 0],
+    [FIRST_EDITION, SECOND_EDITION, places::EDITION, ALONE, 0, 0],
     [1, MOST_BYTES, places::SCRATCHPAD, ALONE, 0, 0],
     [1, MOST_FUNCTIONS, FUNCTIONS, COUNT, rows::VERTEX_COUNT, 0],
     [1, MOST_BYTES, places::SIZE, FIRST, 0, 0],
-    [0, MOST_CYCLES, places::LOAD, LAST, rows::SIZE, 0],
+    [0, MOST_CYCLES, places::LOAD, BETWEEN, 0, 0],
+    [0, MOST_CHECK, places::CHECK, LAST, rows::SIZE, 0],
     [1, MOST_VERTICES, VERTICES, COUNT, rows::EDGE_COUNT, 0],
     [0, MOST_FUNCTIONS - 1, places::FUNCTION, FIRST, 0, FUNCTIONS],
     [0, MOST_CYCLES, places::COST, LAST, rows::FUNCTION, 0],

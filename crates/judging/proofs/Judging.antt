@@ -8,9 +8,8 @@ use lib.ListN.{getD}
 use Rattle.model.specs.declared.Field.{Field}
 use Rattle.model.specs.declared.FieldsAnswer.the-variants.{Done, Refused}
 use Rattle.model.specs.declared.Refusal.the-variants as refusal
-use Rattle.model.specs.Spelling.{numberSize}
-use Rattle.model.specs.File.{numberCount, firstField, nextField, inRange, ascends, itemStart, checkFrom, checkFields}
-use Rattle.spelling.proofs.Laws.{size-five}
+use Rattle.model.specs.File.{numberCount, firstField, nextField, editionIn, fieldSize, inRange, ascends, itemStart, checkFrom, checkFields}
+use Rattle.editions.proofs.Fields.{field-five}
 use Rattle.fields.proofs.Steps.{placed, ranged-later}
 use Rattle.fields.proofs.OneField.{check-done, check-out, check-disorder, check-on}
 use Rattle.edge_runs.specs.Edges.{pastPairs, EdgesChecked}
@@ -38,8 +37,8 @@ module _ {numbers : List ℕ} {field : Field} {at start : ℕ} (r : Judging numb
     pub judge-near : at + 5 ≤ 5 * numberCount
     judge-near = omega (arith, r .near, r .reached .behind, placed (r .reached .valid) h .place)
 
-    pub judge-room : {size : ℕ} → size ≡ numberSize here → at + size ≤ 5 * numberCount
-    judge-room e = omega (arith, judge-near, size-five here)
+    pub judge-room : {size : ℕ} → size ≡ fieldSize (editionIn numbers) field here → at + size ≤ 5 * numberCount
+    judge-room e = omega (arith, judge-near, field-five (editionIn numbers) field here)
 
     -- Behind a run of edges the judging goes on.
     pub judge-past : {k : ℕ} → EdgesChecked field numbers k → {d : Field} → d ≡ pastPairs field k → Judging numbers d (at + places.edgeWidth * k) start
@@ -65,11 +64,11 @@ module _ {numbers : List ℕ} {field : Field} {at start : ℕ} (r : Judging numb
         pub judge-unordered : ascends numbers field ≡ false → Refused (refusal.NotAscending start′) ≡ checkFields numbers
         judge-unordered g = rw starts (sym (check-disorder numbers at start field _ h f g) ∙ turn)
 
-        pub judge-next : ascends numbers field ≡ true → {d : Field} → d ≡ nextField field here → {size : ℕ} → size ≡ numberSize here → Judging numbers d (at + size) start′
+        pub judge-next : ascends numbers field ≡ true → {d : Field} → d ≡ nextField field here → {size : ℕ} → size ≡ fieldSize (editionIn numbers) field here → Judging numbers d (at + size) start′
         judge-next g q z =
             record {
               count = r .count + 1;
-              near = omega (arith, r .near, size-five here);
+              near = omega (arith, r .near, field-five (editionIn numbers) field here);
               reached = reached-next (r .reached) h (ranged-later (r .reached .valid) h numbers here f q);
               same = rw (q, z, starts) (sym (check-on numbers at start field _ h (record { in-range = f; ascending = g })) ∙ turn);
             }

@@ -28,8 +28,8 @@ pub fn check_fields(numbers: &Numbers) -> FieldsAnswer
         if !field_rules::ascends(&table, numbers, field) {
             return FieldsAnswer::Refused(Refusal::NotAscending(start as u64));
         }
+        at += editions::field_size(numbers[places::EDITION], field, value);
         field = fields::next_field(&table, field, value);
-        at += spelling::number_size(value);
     }
     FieldsAnswer::Done(at)
 }

@@ -1,4 +1,4 @@
-// Runs of items of two numbers: functions and vertices, in no order, and edges that are not a byte a number. As with edges that are, those that are sure to pass
+// Runs of items of two numbers: vertices, in no order, and edges that are not a byte a number. As with edges that are, those that are sure to pass
 // are taken at once, behind one another and before the list's last; what ends a run is left to the steps from field to field.
 use fields::Table;
 use model::Field;
@@ -18,20 +18,17 @@ pub struct Run {
     pub at: usize,
 }
 
-// Whether a row is the first number of a function, a vertex or an edge.
+// Whether a row is the first number of a vertex or an edge.
 fn is_item(row: usize) -> bool
     ensures { λ r. ⌜ (r ≡ true → Item row) ⌝ }
 {
-    if row == rows::SIZE {
-        return true;
-    }
     if row == rows::FUNCTION {
         return true;
     }
     row == rows::FROM
 }
 
-// Reads the function or the vertex at a field that others follow, and answers the position behind it; or answers 0 and reads nothing, which is always safe.
+// Reads the vertex at a field that others follow, and answers the position behind it; or answers 0 and reads nothing, which is always safe.
 fn read_pair(table: &Table, bytes: &[u8], numbers: &mut Numbers, at: usize, field: Field) -> usize
     requires { ⌜ now table ≡ entries ⌝ }
     requires { ⌜ AtPair (now bytes) at field (now numbers) ⌝ }
@@ -62,7 +59,7 @@ fn read_pair(table: &Table, bytes: &[u8], numbers: &mut Numbers, at: usize, fiel
     next
 }
 
-// The same of a function, a vertex or an edge.
+// The same of a vertex or an edge.
 fn read_item(table: &Table, bytes: &[u8], numbers: &mut Numbers, at: usize, field: Field) -> usize
     requires { ⌜ now table ≡ entries ⌝ }
     requires { ⌜ AtItem (now bytes) at field (now numbers) × Item (field .row) ⌝ }
@@ -74,7 +71,7 @@ fn read_item(table: &Table, bytes: &[u8], numbers: &mut Numbers, at: usize, fiel
     read_pair(table, bytes, numbers, at, field)
 }
 
-// Reads a run of functions, of vertices or of edges from the field on.
+// Reads a run of vertices or of edges from the field on.
 fn read_items(table: &Table, bytes: &[u8], numbers: &mut Numbers, at: usize, field: Field) -> Run
     requires { ⌜ now table ≡ entries ⌝ }
     requires { ⌜ Readable (now bytes) at field (now numbers) ⌝ }

@@ -14,14 +14,14 @@ use Rattle.model.specs.declared.FieldsAnswer.the-variants.{Done, Refused}
 use Rattle.model.specs.declared.Refusal.the-variants as refusal
 use Rattle.model.specs.declared.Number as spelt
 use Rattle.model.specs.declared.Number.the-variants as number
-use Rattle.model.specs.Spelling.{readNumber}
-use Rattle.model.specs.File.{numberCount, firstField, nextField, inRange, ascends, itemStart, Scan, scanned, readFrom}
+use Rattle.model.specs.File.{numberCount, firstField, nextField, editionIn, readField, inRange, ascends, itemStart, Scan, scanned, readFrom}
 use Rattle.model.proofs.Number.{the-type}
-use Rattle.spelling.proofs.Prefix.{number-ends}
-use Rattle.fields.proofs.Steps.{ranged-later}
+use Rattle.editions.proofs.Fields.{field-inside}
+use Rattle.fields.proofs.Steps.{placed, ranged-later}
 use Rattle.fields.proofs.OneField.{read-done, read-ended, read-misspelt, read-out, read-disorder, read-on}
 use Rattle.edge_runs.specs.Edges.{pastPairs, PairsRead}
 use Rattle.scan.specs.Answers.{misread}
+use Rattle.scan.specs.Functions.{Further}
 use Rattle.edge_runs.proofs.Going.{Reached, reached-first, to-come, reached-next, reached-past, past-to-come}
 use Rattle.model.specs.Places as places
 use Rattle.model.specs.Rows as rows
@@ -62,16 +62,29 @@ module _ {bytes numbers₀ numbers : List ℕ} {field : Field} {at start : ℕ} 
               ∙ r .same;
         })
 
+    -- Behind functions too.
+    pub read-further : {d : Field} {at′ start′ : ℕ} {m : List ℕ} → Further bytes field at start numbers d at′ start′ m → Reading bytes numbers₀ m d at′ start′
+    read-further far =
+        let there = placed (far .readable .valid) (far .going) .place in
+        let left : numberCount - (r .count + far .count) + far .count ≡ numberCount - r .count = omega (arith, r .reached .behind, far .behind) in
+        record {
+          count = r .count + far .count;
+          long = far .readable .long;
+          within = far .readable .inside;
+          reached = record { valid = far .readable .valid; behind = omega (arith, r .reached .behind, far .behind) };
+          same = sym (far .same (numberCount - (r .count + far .count))) ∙ ap (λ (n : ℕ). readFrom n bytes at start field numbers) left ∙ r .same;
+        }
+
     turn : readFrom (suc (numberCount - (r .count + 1))) bytes at start field numbers ≡ whole
     turn = ap (λ (n : ℕ). readFrom n bytes at start field numbers) (sym (to-come (r .reached) h)) ∙ r .same
 
-    pub read-refused : (m : spelt.Number) → m ≡ readNumber bytes at → NoValue m → {f : FieldsAnswer} → f ≡ misread m (length bytes) at → scanned f numbers ≡ whole
+    pub read-refused : (m : spelt.Number) → m ≡ readField (editionIn numbers) bytes at field → NoValue m → {f : FieldsAnswer} → f ≡ misread m (length bytes) at → scanned f numbers ≡ whole
     unfolding misread
     read-refused (number.Value v next) is told e = ⊎-elim (λ z. let q : ⊥ = omega arith in elim q [ ]) (λ z. let q : ⊥ = omega arith in elim q [ ]) told
     read-refused number.Ended is told e = ap (λ (f : FieldsAnswer). scanned f numbers) e ∙ sym (read-ended bytes at start field numbers _ h (sym is)) ∙ turn
     read-refused number.Misspelt is told e = ap (λ (f : FieldsAnswer). scanned f numbers) e ∙ sym (read-misspelt bytes at start field numbers _ h (sym is)) ∙ turn
 
-    module _ {v next : ℕ} (is : readNumber bytes at ≡ number.Value v next) where
+    module _ {v next : ℕ} (is : readField (editionIn numbers) bytes at field ≡ number.Value v next) where
       pub read-too-far : inRange numbers field v ≡ false → scanned (Refused (refusal.OutOfRange at)) numbers ≡ whole
       read-too-far f = sym (read-out bytes at start field numbers _ h v next is f) ∙ turn
 
@@ -85,7 +98,7 @@ module _ {bytes numbers₀ numbers : List ℕ} {field : Field} {at start : ℕ} 
               record {
                 count = r .count + 1;
                 long = simp length-set (r .long);
-                within = number-ends _ _ _ _ is .2;
+                within = field-inside _ _ _ _ _ _ is (r .within);
                 reached = reached-next (r .reached) h (ranged-later (r .reached .valid) h numbers v f q);
                 same = rw (q, starts) (sym (read-on bytes at start field numbers _ h v next is f g) ∙ turn);
               }

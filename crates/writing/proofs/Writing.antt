@@ -9,11 +9,10 @@ use lib.Seq.{sets, length-sets}
 use borrow.Author.Tests.{le-leb, lt-leb}
 use Rattle.model.specs.declared.Field.{Field}
 use Rattle.model.specs.declared.FieldsAnswer.the-variants.{Done}
-use Rattle.model.specs.Spelling.{numberSize, numberBytes}
-use Rattle.model.specs.File.{numberCount, firstField, nextField, itemStart, checkFrom, checkFields, bytesFrom, fileBytes}
+use Rattle.model.specs.File.{numberCount, firstField, nextField, editionIn, fieldSize, fieldBytes, itemStart, checkFrom, checkFields, bytesFrom, fileBytes}
 use Rattle.model.proofs.Cases.{by-order}
 use Rattle.model.proofs.Lists.{sets-append}
-use Rattle.spelling.proofs.Laws.{bytes-length}
+use Rattle.editions.proofs.Fields.{field-length}
 use Rattle.fields.proofs.Steps.{Later, ranged-later}
 use Rattle.fields.proofs.OneField.{Passed, checked, check-done, bytes-over, bytes-on}
 use Rattle.writing.specs.Fits.{Fits}
@@ -26,7 +25,7 @@ unfolding checkFrom
 check-grows zero at start c l end e = let q : Done at ≡ Done end = e in let p : at ≡ end = cc in omega arith
 check-grows (suc n) at start c l end e =
     by-order (c .row) rows.end
-    (λ h. let next = check-grows n (at + numberSize (getD l (c .place) 0)) (itemStart c at start) (nextField c (getD l (c .place) 0)) l end (checked l n at start end c h e .1) in omega arith)
+    (λ h. let next = check-grows n (at + fieldSize (editionIn l) c (getD l (c .place) 0)) (itemStart c at start) (nextField c (getD l (c .place) 0)) l end (checked l n at start end c h e .1) in omega arith)
     (λ h. let q : Done at ≡ Done end = sym (check-done l at start c (suc n) h) ∙ e in let p : at ≡ end = cc in omega arith)
 
 pub record Writing (buf₀ numbers buf : List ℕ) (field : Field) (at : ℕ) : Type 0 where
@@ -57,28 +56,28 @@ module _ {buf₀ numbers buf : List ℕ} {field : Field} {at : ℕ} (w : Writing
     to-write = numberCount - (w .count + 1)
 
     -- The number is good, and so is what follows it.
-    good : Passed numbers field × (checkFrom to-write (at + numberSize here) (itemStart field at (w .start)) (nextField field here) numbers ≡ Done (fits .need))
+    good : Passed numbers field × (checkFrom to-write (at + fieldSize (editionIn numbers) field here) (itemStart field at (w .start)) (nextField field here) numbers ≡ Done (fits .need))
     unfolding to-write
     good =
         checked numbers to-write at (w .start) (fits .need) field h
         (ap (λ (n : ℕ). checkFrom n at (w .start) field numbers) (sym (to-come (w .reached) h)) ∙ w .same ∙ fits .checked)
 
-    pub write-room : at + numberSize here ≤ length buf
+    pub write-room : at + fieldSize (editionIn numbers) field here ≤ length buf
     write-room = omega (arith, check-grows to-write _ _ _ numbers (fits .need) (good .1), fits .room, w .long)
 
     pub write-later : {d : Field} → d ≡ nextField field here → Later field d
     write-later q = ranged-later (w .reached .valid) h numbers here (good .0 .in-range) q
 
-    rest : sets (sets buf at (numberBytes here)) (at + numberSize here) (bytesFrom to-write (nextField field here) numbers) ≡ sets buf₀ 0 (fileBytes numbers)
+    rest : sets (sets buf at (fieldBytes (editionIn numbers) field here)) (at + fieldSize (editionIn numbers) field here) (bytesFrom to-write (nextField field here) numbers) ≡ sets buf₀ 0 (fileBytes numbers)
     unfolding to-write
     rest =
-        let bytes : List ℕ = numberBytes here in
+        let bytes : List ℕ = fieldBytes (editionIn numbers) field here in
         let behind : List ℕ = bytesFrom to-write (nextField field here) numbers in
         let split : sets buf at (bytes ++ behind) ≡ sets buf₀ 0 (fileBytes numbers) =
         rw (to-come (w .reached) h, bytes-on to-write field numbers here (lt-leb rows.end (field .row) h) refl) at (w .bytes) in
-        ap (λ (m : ℕ). sets (sets buf at bytes) (at + m) behind) (sym (bytes-length here)) ∙ sym (sets-append bytes behind buf at) ∙ split
+        ap (λ (m : ℕ). sets (sets buf at bytes) (at + m) behind) (sym (field-length (editionIn numbers) field here)) ∙ sym (sets-append bytes behind buf at) ∙ split
 
-    pub write-next : {d : Field} → d ≡ nextField field here → {at′ : ℕ} → at′ ≡ at + numberSize here → {next : List ℕ} → next ≡ sets buf at (numberBytes here) →
+    pub write-next : {d : Field} → d ≡ nextField field here → {at′ : ℕ} → at′ ≡ at + fieldSize (editionIn numbers) field here → {next : List ℕ} → next ≡ sets buf at (fieldBytes (editionIn numbers) field here) →
         Writing buf₀ numbers next d at′
     unfolding to-write
     write-next q moved stored =

@@ -1,6 +1,7 @@
 // The file of a problem's numbers, written field by field.
 use model::FieldsAnswer;
 use model::Numbers;
+use model::places;
 use model::rows;
 ghost use mathlib.Core.Path.{_≡_};
 ghost use lib.Seq.{sets};
@@ -18,7 +19,7 @@ pub fn write_fields(buf: &mut [u8], numbers: &Numbers) -> usize
     while field.row < rows::END {
         let place = field.place;
         let value = numbers[place];
-        at = spelling::write_number(buf, at, value);
+        at = editions::write_field(numbers[places::EDITION], buf, at, field, value);
         field = fields::next_field(&table, field, value);
     }
     at

@@ -42,6 +42,9 @@ started c = c .before .before
 abbrev ranged : tie.After-item-start Inv-loop μ-loop → tie.Else2 Inv-loop μ-loop
 ranged c = c .before .before
 
+abbrev measured : tie.After-field-size Inv-loop μ-loop → tie.Else3 Inv-loop μ-loop
+measured c = c .before .before
+
 -- Behind a run of edges.
 module _ (c : tie.After-past-pairs Inv-loop μ-loop) where
   abbrev run : ℕ
@@ -114,33 +117,36 @@ returns-2 c =
     let at = past (good .before) in
     judge-unordered (judging at) (going at) (in-range good) (started (c .before) .item-start .ensures) (sym (c .before .ascends .ensures) ∙ not-true _ (c .if3 .taken))
 
-next-field-requires : tie.Need-next-field-requires Inv-loop μ-loop
-next-field-requires c κs =
-    let at = past (ranged (started (c .before .before)) .before) in
-    (tabled (turn at) .table .ensures, here at)
+element-copy-out-field-size : tie.Need-element-copy-out-field-size Inv-loop μ-loop
+element-copy-out-field-size c = search needs
 
-number-size-requires : tie.Need-number-size-requires Inv-loop μ-loop
-number-size-requires c κs = search needs
+field-size-requires : tie.Need-field-size-requires Inv-loop μ-loop
+field-size-requires c κs = search needs
 
 add-at-2 : tie.Need-add-at-2 Inv-loop μ-loop
 add-at-2 c =
-    let at = past (ranged (started (c .before .before .before .before)) .before) in
-    omega (arith, judge-room (judging at) (going at) (c .number-size .ensures))
+    let at = past (ranged (started (measured c .before)) .before) in
+    omega (arith, judge-room (judging at) (going at) (c .field-size .ensures))
+
+next-field-requires : tie.Need-next-field-requires Inv-loop μ-loop
+next-field-requires c κs =
+    let at = past (ranged (started (measured (c .before) .before)) .before) in
+    (tabled (turn at) .table .ensures, here at)
 
 loop-less : tie.Need-loop-less Inv-loop μ-loop
 loop-less c =
-    let good = ranged (started (c .before .before .before .before)) in
+    let good = ranged (started (measured (c .before .before) .before)) in
     let at = past (good .before) in
     let valid = judging at .reached .valid in
-    past-nearer (turn at .loop .field) (run at) (at .past-pairs .ensures) valid (going at) (ranged-later valid (going at) _ _ (in-range good) (c .before .next-field .ensures))
+    past-nearer (turn at .loop .field) (run at) (at .past-pairs .ensures) valid (going at) (ranged-later valid (going at) _ _ (in-range good) (c .next-field .ensures))
 
 loop-again : tie.Need-loop-again Inv-loop μ-loop
 loop-again c =
-    let ascended = c .before .before .before in
+    let ascended = measured (c .before .before) in
     let good = ranged (started (ascended .before)) in
     let at = past (good .before) in
     judge-next (judging at) (going at) (in-range good) (started (ascended .before) .item-start .ensures)
-    (sym (ascended .before .ascends .ensures) ∙ not-false _ (ascended .if3 .left)) (c .before .next-field .ensures) (c .number-size .ensures)
+    (sym (ascended .before .ascends .ensures) ∙ not-false _ (ascended .if3 .left)) (c .next-field .ensures) (c .before .before .field-size .ensures)
 
 returns-3 : tie.Need-returns-3 Inv-loop μ-loop
 returns-3 c = judge-all (c .before .before .loop .inv) (c .if1 .left)
@@ -165,9 +171,10 @@ check-fields-spec =
     item-start-requires
     ascends-requires
     returns-2
-    next-field-requires
-    number-size-requires
+    element-copy-out-field-size
+    field-size-requires
     add-at-2
+    next-field-requires
     loop-less
     loop-again
     returns-3)

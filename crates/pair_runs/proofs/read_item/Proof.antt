@@ -1,4 +1,4 @@
--- `read_item` reads an edge, or else a function or a vertex.
+-- `read_item` reads an edge, or else a vertex.
 use borrow.Author.Needs.{needs}
 use Rattle.pair_runs.proofs.Pairs.{no-edge}
 use Rattle.pair_runs.proofs.read_item.Statement.{statement}

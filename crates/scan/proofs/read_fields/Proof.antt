@@ -1,21 +1,20 @@
 -- `read_fields` reads as `readFrom` does. The invariant: what is left to read from the present field is what was to be read from the first, and the field is valid.
-use Prim.Native.Nat.{ℕ, _+_, _*_, _-_, _<_}
+use Prim.Native.Nat.{_-_, _<_}
 use mathlib.Core.Path.{_≡_, sym, _∙_}
 use mathlib.Core.Bool.{true}
 use native.Mathlib.Omega.{arith}
 use borrow.Author.Needs.{needs}
 use borrow.Author.Tests.{not-true, not-false}
 use Rattle.model.specs.declared.Number.the-variants as number
-use Rattle.model.specs.Spelling.{readNumber}
-use Rattle.model.specs.File.{numberCount, inRange}
+use Rattle.model.specs.File.{numberCount, editionIn, readField, inRange}
 use Rattle.fields.specs.Valid.{Placed}
 use Rattle.fields.proofs.Steps.{placed, ranged-later}
 use Rattle.pair_runs.specs.declared.Run.{Run}
+use Rattle.scan.specs.declared.Far.{Far}
 use Rattle.edge_runs.proofs.Going.{past-row, past-nearer}
-use Rattle.scan.proofs.Reading.{Reading, read-first, read-all, read-past, read-refused, read-too-far, read-unordered, read-next}
+use Rattle.scan.proofs.Reading.{Reading, read-first, read-all, read-past, read-further, read-refused, read-too-far, read-unordered, read-next}
 use Rattle.scan.proofs.read_fields.Statement.{statement}
 use Rattle.scan.proofs.read_fields.Tie as tie
-use Rattle.model.specs.Places as places
 use Rattle.model.specs.Rows as rows
 
 abbrev Inv-loop : tie.InvT-loop
@@ -31,14 +30,20 @@ tabled c = c .before .before
 abbrev entry : tie.At-loop Inv-loop μ-loop → tie.Start Inv-loop μ-loop
 entry c = tabled c .before .before
 
-abbrev tested : tie.After-past-pairs Inv-loop μ-loop → tie.Then1 Inv-loop μ-loop
-tested c = c .before .before .before .before
+abbrev tested : tie.After-read-functions Inv-loop μ-loop → tie.Then1 Inv-loop μ-loop
+tested c = c .before .before .before
+
+abbrev functions : tie.After-read-run Inv-loop μ-loop → tie.After-read-functions Inv-loop μ-loop
+functions c = c .before .before .before .before
 
 abbrev turn : tie.After-past-pairs Inv-loop μ-loop → tie.At-loop Inv-loop μ-loop
-turn c = tested c .before .before
+turn c = tested (functions (c .before)) .before .before
+
+abbrev read : tie.After-read-field Inv-loop μ-loop → tie.After-past-pairs Inv-loop μ-loop
+read c = c .before .before
 
 abbrev past : tie.After-number Inv-loop μ-loop → tie.After-past-pairs Inv-loop μ-loop
-past c = c .before .before .before
+past c = read (c .before .before)
 
 abbrev valued : tie.After-in-range Inv-loop μ-loop → tie.After-number Inv-loop μ-loop
 valued c = c .before .before .before .before
@@ -49,25 +54,35 @@ started c = c .before .before .before
 abbrev ranged : tie.After-item-start Inv-loop μ-loop → tie.Else2 Inv-loop μ-loop
 ranged c = c .before .before
 
+-- Behind functions.
+module _ (c : tie.After-read-functions Inv-loop μ-loop) where
+  abbrev far : Far
+  far = c .read-functions .result
+
+  reading-on : Reading (entry (tested c .before .before) .args .bytes .now) (entry (tested c .before .before) .args .numbers .now) (c .read-functions .last .1 .1 .0) (far .field) (far .at) (far .start)
+  reading-on = read-further (tested c .before .before .loop .inv) (tested c .if1 .taken) (c .read-functions .ensures)
+
 -- Behind a run.
 module _ (c : tie.After-past-pairs Inv-loop μ-loop) where
   abbrev run : Run
   run = c .before .read-run .result
 
   going : c .past-pairs .result .row < rows.end
-  going = past-row (turn c .loop .field) (run .items) (c .past-pairs .ensures) (tested c .if1 .taken)
+  going = past-row (far (functions (c .before)) .field) (run .items) (c .past-pairs .ensures) (functions (c .before) .read-functions .ensures .going)
 
   reading : Reading (entry (turn c) .args .bytes .now) (entry (turn c) .args .numbers .now) (c .before .read-run .last .1 .1 .0) (c .past-pairs .result)
-      (run .at) (turn c .loop .start)
-  reading = read-past (turn c .loop .inv) (tested c .if1 .taken) (c .before .read-run .ensures) (c .past-pairs .ensures)
+      (run .at) (far (functions (c .before)) .start)
+  reading =
+      let on = functions (c .before) in
+      read-past (reading-on on) (on .read-functions .ensures .going) (c .before .read-run .ensures) (c .past-pairs .ensures)
 
   here : Placed (c .past-pairs .result)
   here = placed (reading .reached .valid) going
 
 -- The number that was read.
 is-number : (c : tie.After-number Inv-loop μ-loop) →
-    readNumber (entry (turn (past c)) .args .bytes .now) (run (past c) .at) ≡ number.Value (c .number .given .0 .0) (c .number .given .0 .1 .0)
-is-number c = sym (c .before .before .read-number .ensures) ∙ c .number .given .1
+    readField (editionIn (past c .before .read-run .last .1 .1 .0)) (entry (turn (past c)) .args .bytes .now) (run (past c) .at) (past c .past-pairs .result) ≡ number.Value (c .number .given .0 .0) (c .number .given .0 .1 .0)
+is-number c = sym (c .before .before .read-field .ensures) ∙ c .number .given .1
 
 -- It is in range.
 in-range : (c : tie.Else2 Inv-loop μ-loop) → inRange (past (valued (c .before)) .before .read-run .last .1 .1 .0) (past (valued (c .before)) .past-pairs .result) (valued (c .before) .number .given .0 .0) ≡ true
@@ -82,17 +97,25 @@ first-field-requires c κs = search needs
 loop-holds : tie.Need-loop-holds Inv-loop μ-loop
 loop-holds c = read-first _ (c .before .before .before .pre) (c .first-field .ensures)
 
-read-run-requires : tie.Need-read-run-requires Inv-loop μ-loop
-read-run-requires c κs =
+read-functions-requires : tie.Need-read-functions-requires Inv-loop μ-loop
+read-functions-requires c κs =
     let at = c .before .before .before .before in
     let r = at .loop .inv in
-    (tabled at .table .ensures, record { inside = r .within; valid = r .reached .valid; long = r .long })
+    (tabled at .table .ensures, (record { inside = r .within; valid = r .reached .valid; long = r .long }, c .before .before .if1 .taken))
+
+read-run-requires : tie.Need-read-run-requires Inv-loop μ-loop
+read-run-requires c κs =
+    let at = c .before .before .before in
+    (tabled (tested at .before .before) .table .ensures, at .read-functions .ensures .readable)
 
 past-pairs-requires : tie.Need-past-pairs-requires Inv-loop μ-loop
-past-pairs-requires c κs = (c .read-run .ensures .few, placed (c .read-run .ensures .valid) (c .before .before .before .if1 .taken) .place)
+past-pairs-requires c κs = (c .read-run .ensures .few, placed (c .read-run .ensures .valid) (functions c .read-functions .ensures .going) .place)
 
-read-number-requires : tie.Need-read-number-requires Inv-loop μ-loop
-read-number-requires c κs = search needs
+element-copy-out-read-field : tie.Need-element-copy-out-read-field Inv-loop μ-loop
+element-copy-out-read-field c = search needs
+
+read-field-requires : tie.Need-read-field-requires Inv-loop μ-loop
+read-field-requires c κs = search needs
 
 enum-known-number : tie.Need-enum-known-number Inv-loop μ-loop
 enum-known-number c = search needs
@@ -102,8 +125,8 @@ misread-at-requires c κs = search needs
 
 returns : tie.Need-returns Inv-loop μ-loop
 returns c =
-    let at = c .before .before .before in
-    read-refused (reading at) (going at) _ (c .before .before .read-number .ensures) (c .before .match .keys2) (c .misread-at .ensures)
+    let at = read (c .before .before) in
+    read-refused (reading at) (going at) _ (c .before .before .read-field .ensures) (c .before .match .keys2) (c .misread-at .ensures)
 
 in-range-requires : tie.Need-in-range-requires Inv-loop μ-loop
 in-range-requires c κs =
@@ -148,7 +171,9 @@ loop-less c =
     let good = ranged (started (c .before .before .before)) in
     let at = past (valued (good .before)) in
     let valid = reading at .reached .valid in
-    past-nearer (turn at .loop .field) (run at .items) (at .past-pairs .ensures) valid (going at) (ranged-later valid (going at) _ _ (in-range good) (c .next-field .ensures))
+    let on = functions (at .before) in
+    let near = past-nearer (far on .field) (run at .items) (at .past-pairs .ensures) valid (going at) (ranged-later valid (going at) _ _ (in-range good) (c .next-field .ensures)) in
+    omega (arith, on .read-functions .ensures .behind)
 
 loop-again : tie.Need-loop-again Inv-loop μ-loop
 loop-again c =
@@ -170,9 +195,11 @@ read-fields-spec =
     table-requires
     first-field-requires
     loop-holds
+    read-functions-requires
     read-run-requires
     past-pairs-requires
-    read-number-requires
+    element-copy-out-read-field
+    read-field-requires
     enum-known-number
     misread-at-requires
     returns

@@ -26,10 +26,10 @@ entry c = tabled c .before .before
 abbrev turn : tie.Then1 Inv-loop μ-loop → tie.At-loop Inv-loop μ-loop
 turn c = c .before .before
 
-abbrev going : tie.After-write-number Inv-loop μ-loop → tie.Then1 Inv-loop μ-loop
-going c = c .before .before .before
+abbrev going : tie.After-write-field Inv-loop μ-loop → tie.Then1 Inv-loop μ-loop
+going c = c .before .before .before .before
 
-abbrev written : tie.After-table2 Inv-loop μ-loop → tie.After-write-number Inv-loop μ-loop
+abbrev written : tie.After-table2 Inv-loop μ-loop → tie.After-write-field Inv-loop μ-loop
 written c = c .before .before .before
 
 table-requires : tie.Need-table-requires Inv-loop μ-loop
@@ -47,9 +47,12 @@ mul-value c = omega (arith, placed (turn c .loop .inv .reached .valid) (c .if1 .
 element-copy-out-value : tie.Need-element-copy-out-value Inv-loop μ-loop
 element-copy-out-value c = placed (turn c .loop .inv .reached .valid) (c .if1 .taken) .place
 
-write-number-requires : tie.Need-write-number-requires Inv-loop μ-loop
-write-number-requires c κs =
-    let at = c .before .before in
+element-copy-out-write-field : tie.Need-element-copy-out-write-field Inv-loop μ-loop
+element-copy-out-write-field c = search needs
+
+write-field-requires : tie.Need-write-field-requires Inv-loop μ-loop
+write-field-requires c κs =
+    let at = c .before .before .before in
     write-room (turn at .loop .inv) (entry (turn at) .pre) (at .if1 .taken)
 
 next-field-requires : tie.Need-next-field-requires Inv-loop μ-loop
@@ -66,7 +69,7 @@ loop-less c =
 loop-again : tie.Need-loop-again Inv-loop μ-loop
 loop-again c =
     let at = going (written (c .before)) in
-    let wrote = written (c .before) .write-number .ensures in
+    let wrote = written (c .before) .write-field .ensures in
     write-next (turn at .loop .inv) (entry (turn at) .pre) (at .if1 .taken) (c .next-field .ensures) (wrote .0) (wrote .1)
 
 same-length : tie.Need-same-length Inv-loop μ-loop
@@ -86,7 +89,8 @@ write-fields-spec =
     loop-holds
     mul-value
     element-copy-out-value
-    write-number-requires
+    element-copy-out-write-field
+    write-field-requires
     next-field-requires
     loop-less
     loop-again
