@@ -1,6 +1,6 @@
--- What the judgement of a field looks at: among the numbers before it the two counts that narrow ranges, and the items of its own list.
+-- What the judgement of a field looks at: among the numbers before it the edition, the two counts that narrow ranges, and the items of its own list.
 use Prim.Native.Nat.{ℕ, _+_, _-_, _≤_, _<_}
-use mathlib.Core.Path.{_≡_, sym, _∙_}
+use mathlib.Core.Path.{_≡_, sym, ap, _∙_}
 use mathlib.Core.List.{List, [], _∷_}
 use native.Mathlib.Omega.{arith}
 use lib.ListN.{length, getD, set}
@@ -9,10 +9,11 @@ use lib.Dec.{eqb}
 use borrow.Author.Tests.{eqb-true, eqb-false}
 use Rattle.model.specs.declared.Field.{Field}
 use Rattle.model.specs.Table.{bases, kinds, jumps, counts, base, countOver}
-use Rattle.model.specs.File.{nextField, belowCount, fromHeader, inRange, edgeSpan, loopSpan, ascends}
-use Rattle.model.proofs.Cases.{by-bool}
+use Rattle.model.specs.File.{nextField, editionIn, unwritten, belowCount, fromHeader, zeroUnwritten, inRange, edgeSpan, loopSpan, ascends}
+use Rattle.model.proofs.Cases.{by-bool, by-same}
 use Rattle.fields.specs.Valid.{Valid}
 use Rattle.fields.proofs.Steps.{after-count, after-item}
+use Rattle.fields.proofs.Editions.{other-row}
 use Rattle.model.specs.Places as places
 use Rattle.model.specs.Rows as rows
 
@@ -20,7 +21,7 @@ use Rattle.model.specs.Rows as rows
 unfoldable pub itemBases : List ℕ
 itemBases =
     places.edition ∷ places.scratchpad
-    ∷ places.functionCount ∷ places.size ∷ places.size
+    ∷ places.functionCount ∷ places.size ∷ places.size ∷ places.size
     ∷ places.vertexCount ∷ places.function ∷ places.function
     ∷ places.edgeCount ∷ places.from ∷ places.from
     ∷ places.loopCount ∷ places.header ∷ places.header ∷ places.header
@@ -32,7 +33,7 @@ itemBase row = getD itemBases row 0
 -- Place k is looked at from the field c on.
 pub record Seen (c : Field) (k : ℕ) : Type 0 where
   pub below : k < c .place
-  pub counts : (k ≡ places.functionCount → ⊥) → (k ≡ places.vertexCount → ⊥) → itemBase (c .row) ≤ k
+  pub counts : (k ≡ places.edition → ⊥) → (k ≡ places.functionCount → ⊥) → (k ≡ places.vertexCount → ⊥) → itemBase (c .row) ≤ k
 
 -- Two lists that no judgement from c on tells apart.
 abbrev pub Alike : Field → List ℕ → List ℕ → Type 0
@@ -47,6 +48,7 @@ alike-below c l m same k s = same k (s .below)
 
 -- Where the places are that a valid field's judgement looks at.
 record Looks (c : Field) : Type 0 where
+  edition : c .row ≡ rows.check → Seen c places.edition
   count : 0 < countOver (c .row) → Seen c (countOver (c .row))
   header : c .row ≡ rows.last → Seen c (c .place - (places.last - places.header))
   edge : c .row ≡ rows.to → (c .place ≡ base (c .row) → ⊥) → (j : ℕ) → 0 < j → j ≤ places.edgeWidth + edgeSpan → Seen c (c .place - j)
@@ -59,6 +61,7 @@ looks Valid.scratchpad = omega arith
 looks Valid.functions = omega arith
 looks (Valid.size i left f) = omega arith
 looks (Valid.load i left f) = omega arith
+looks (Valid.check i left f) = omega arith
 looks Valid.vertices = omega arith
 looks (Valid.function i left f) = omega arith
 looks (Valid.cost i left f) = omega arith
@@ -81,14 +84,23 @@ module _ (l m : List ℕ) where
   unfolding fromHeader
   header-agrees c v h = by-bool (eqb (c .row) rows.last) (λ e. rw (h (eqb-true (c .row) rows.last e))) (λ e. simp e)
 
+  edition-agrees : (c : Field) → (c .row ≡ rows.check → editionIn l ≡ editionIn m) → unwritten (editionIn l) c ≡ unwritten (editionIn m) c
+  edition-agrees c h =
+      by-same (c .row) rows.check (λ e. ap (λ (edition : ℕ). unwritten edition c) (h e))
+      (λ n. sym (other-row (editionIn l) c n) ∙ other-row (editionIn m) c n)
+
   module _ {c : Field} (f : Valid c) (same : Alike c l m) where
+    pub unwritten-agrees : unwritten (editionIn l) c ≡ unwritten (editionIn m) c
+    unwritten-agrees = edition-agrees c (λ h. same places.edition (looks f .edition h))
+
     pub range-agrees : (v : ℕ) → inRange l c v ≡ inRange m c v
-    unfolding inRange
+    unfolding inRange zeroUnwritten
     range-agrees v =
         let o : Looks c = looks f in
         rw (
           count-agrees (c .row) v (λ h. same (countOver (c .row)) (o .count h)),
           header-agrees c v (λ h. same (c .place - (places.last - places.header)) (o .header h)),
+          unwritten-agrees,
         )
 
     -- The order of a later item looks at the item before it.
@@ -111,7 +123,7 @@ module _ (l m : List ℕ) where
         simp (e, q, r, at (places.loopWidth + loopSpan) (omega arith) (omega arith), at loopSpan (omega arith) (omega arith)))
         (λ r. simp (e, q, r))))
 
--- From c to d no place but c's own comes into sight, neither of the two counts nor among the items.
+-- From c to d no place but c's own comes into sight, neither the edition, nor of the two counts, nor among the items.
 record Steps (c d : Field) : Type 0 where
   functions : places.functionCount < d .place → places.functionCount ≤ c .place
   vertices : places.vertexCount < d .place → places.vertexCount ≤ c .place
@@ -119,12 +131,14 @@ record Steps (c d : Field) : Type 0 where
 
 seen-before : (c d : Field) → Steps c d → (k : ℕ) → Seen d k → (k ≡ c .place → ⊥) → Seen c k
 seen-before c d h k s n =
-    by-bool (eqb k places.functionCount)
-    (λ e. let q = eqb-true k places.functionCount e in record { below = omega (arith, h .functions (omega arith)); counts = λ a b. absurd (a q) })
-    (λ e. by-bool (eqb k places.vertexCount)
-    (λ t. let q = eqb-true k places.vertexCount t in record { below = omega (arith, h .vertices (omega arith)); counts = λ a b. absurd (b q) })
-    (λ t. let i = h .items k (s .counts (eqb-false k places.functionCount e) (eqb-false k places.vertexCount t)) (s .below) n in
-    record { below = i .1; counts = λ a b. i .0 }))
+    by-same k places.edition
+    (λ q. record { below = omega arith; counts = λ z a b. absurd (z q) })
+    (λ z. by-same k places.functionCount
+    (λ q. record { below = omega (arith, h .functions (omega arith)); counts = λ z a b. absurd (a q) })
+    (λ a. by-same k places.vertexCount
+    (λ q. record { below = omega (arith, h .vertices (omega arith)); counts = λ z a b. absurd (b q) })
+    (λ b. let i = h .items k (s .counts z a b) (s .below) n in
+    record { below = i .1; counts = λ z a b. i .0 })))
 
 next-steps : {c : Field} → Valid c → c .row < rows.end → (v : ℕ) → Steps c (nextField c v)
 unfolding nextField bases kinds jumps itemBases
@@ -132,7 +146,8 @@ next-steps Valid.edition h v = omega arith
 next-steps Valid.scratchpad h v = omega arith
 next-steps Valid.functions h v = after-count (Steps _) _ v (λ e. omega arith) (λ k. omega arith)
 next-steps (Valid.size i left f) h v = omega arith
-next-steps (Valid.load i left f) h v = after-item (Steps _) _ (λ e. omega arith) (λ k. omega arith)
+next-steps (Valid.load i left f) h v = omega arith
+next-steps (Valid.check i left f) h v = after-item (Steps _) _ (λ e. omega arith) (λ k. omega arith)
 next-steps Valid.vertices h v = after-count (Steps _) _ v (λ e. omega arith) (λ k. omega arith)
 next-steps (Valid.function i left f) h v = omega arith
 next-steps (Valid.cost i left f) h v = after-item (Steps _) _ (λ e. omega arith) (λ k. omega arith)

@@ -6,10 +6,11 @@ use native.Mathlib.Omega.{arith}
 use Rattle.model.specs.declared.FieldsAnswer.the-variants.{Done}
 use Rattle.model.specs.Table.{limits, bases, counts}
 use Rattle.model.specs.File.{checkFields}
+use Rattle.fields.proofs.Editions.{first-unwritten}
 use Rattle.facts.specs.Fields.{FieldFacts}
 use Rattle.facts.proofs.Good.{GoodNumbers}
 use Rattle.facts.proofs.Judging.{checked-good}
-use Rattle.facts.proofs.Passed.{in-limits, in-count, not-below-header, edge-order, header-order}
+use Rattle.facts.proofs.Passed.{in-limits, in-count, not-below-header, unwritten-zero, edge-order, header-order}
 use Rattle.facts.proofs.Reach.{passed}
 use Rattle.facts.proofs.Walk as walk
 use Rattle.model.specs.Places as places
@@ -22,9 +23,11 @@ module _ (l : List ℕ) (good : GoodNumbers l) where
       let vertices = walk.vertex-items l good in
       let edges = walk.edge-items l good in
       let loops = walk.loop-items l good in
+      let edition = in-limits l places.edition refl (passed l (walk.edition l good) (omega arith)) in
       let scratchpad = in-limits l places.scratchpad refl (passed l (walk.scratchpad l good) (omega arith)) in
       record {
-        edition = omega (arith, in-limits l places.edition refl (passed l (walk.edition l good) (omega arith)));
+        edition-low = edition .0;
+        edition-high = edition .1;
         scratchpad-low = scratchpad .0;
         scratchpad-high = scratchpad .1;
         some-function = in-limits l places.functionCount refl (passed l (walk.functions l good) (omega arith)) .0;
@@ -35,6 +38,8 @@ module _ (l : List ℕ) (good : GoodNumbers l) where
         loops = in-limits l places.loopCount refl (passed l (walk.loops l good) (omega arith)) .1;
         size = λ i h. in-limits l (places.size + places.functionWidth * i) (omega arith) (functions i 0 h (omega arith));
         load = λ i h. in-limits l (places.load + places.functionWidth * i) (omega arith) (functions i 1 h (omega arith)) .1;
+        check = λ i h. in-limits l (places.check + places.functionWidth * i) (omega arith) (functions i 2 h (omega arith)) .1;
+        unchecked = λ first i h. unwritten-zero l (places.check + places.functionWidth * i) (omega arith) (functions i 2 h (omega arith)) (first-unwritten _ _ refl first);
         function = λ i h. in-count l (places.function + places.vertexWidth * i) (omega arith) (vertices i 0 h (omega arith)) places.functionCount refl (omega arith);
         cost = λ i h. in-limits l (places.cost + places.vertexWidth * i) (omega arith) (vertices i 1 h (omega arith)) .1;
         from = λ i h. in-count l (places.from + places.edgeWidth * i) (omega arith) (edges i 0 h (omega arith)) places.vertexCount refl (omega arith);

@@ -6,8 +6,7 @@ use lib.ListN.{getD}
 use borrow.Author.Tests.{leb-false}
 use Rattle.model.specs.declared.Field.{Field}
 use Rattle.model.specs.declared.FieldsAnswer.the-variants.{Done}
-use Rattle.model.specs.Spelling.{numberSize}
-use Rattle.model.specs.File.{numberCount, firstField, atEnd, itemStart, checkFrom, checkFields}
+use Rattle.model.specs.File.{numberCount, firstField, atEnd, editionIn, fieldSize, itemStart, checkFrom, checkFields}
 use Rattle.model.proofs.Cases.{by-bool}
 use Rattle.fields.proofs.OneField.{checked}
 use Rattle.facts.proofs.Good.{Good, GoodNumbers}
@@ -24,7 +23,7 @@ unfolding checkFrom
 good-judged Good.none at start = (at, refl)
 good-judged (Good.over e) at start = (at, simp e)
 good-judged {l} {c} (Good.on e p more) at start =
-    let rest = good-judged more (at + numberSize (getD l (c .place) 0)) (itemStart c at start) in
+    let rest = good-judged more (at + fieldSize (editionIn l) c (getD l (c .place) 0)) (itemStart c at start) in
     (rest .0, simp (e, p .in-range, p .ascending) (rest .1))
 
 -- Numbers that pass the checks of writing are good.

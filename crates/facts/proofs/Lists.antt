@@ -55,7 +55,7 @@ module _ (l : List ℕ) where
         some = omega arith;
         counts = refl;
         passes = refl;
-        within = one-between rows.functionCount (omega arith);
+        within = two-between rows.functionCount (omega arith) (omega arith);
         ends = refl;
         again = refl;
         used = λ k h q. use-is k (lt-ltb k _ (omega arith)) refl refl refl;

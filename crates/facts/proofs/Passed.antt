@@ -6,19 +6,19 @@ use mathlib.Core.Bool.{true, _&&_}
 use native.Mathlib.Omega.{arith}
 use lib.ListN.{getD}
 use lib.Dec.{leb}
-use borrow.Author.Tests.{ltb-true, leb-true}
+use borrow.Author.Tests.{eqb-true, ltb-true, leb-true}
 use Rattle.model.specs.declared.Field.{Field}
 use Rattle.model.specs.Table.{least, greatest, base, countOver}
-use Rattle.model.specs.File.{inRange, belowCount, fromHeader, edgeBefore, edgeSpan, loopSpan}
+use Rattle.model.specs.File.{editionIn, unwritten, inRange, belowCount, fromHeader, zeroUnwritten, edgeBefore, edgeSpan, loopSpan}
 use Rattle.model.proofs.Cases.{and-left, and-right}
-use Rattle.fields.proofs.Laws.{under-count, after-header, edge-ascends, loop-ascends}
+use Rattle.fields.proofs.Laws.{under-count, after-header, must-be-zero, edge-ascends, loop-ascends}
 use Rattle.fields.proofs.Steps.{in-row}
 use Rattle.fields.proofs.OneField.{Passed}
 use Rattle.model.specs.Places as places
 use Rattle.model.specs.Rows as rows
 
 module _ (l : List ℕ) where
-  narrowed : (c : Field) (v : ℕ) → inRange l c v ≡ true → (belowCount l (c .row) v && fromHeader l c v) ≡ true
+  narrowed : (c : Field) (v : ℕ) → inRange l c v ≡ true → (belowCount l (c .row) v && (fromHeader l c v && zeroUnwritten l c v)) ≡ true
   unfolding inRange
   narrowed c v e = and-right (leb v (greatest (c .row))) _ (and-right (leb (least (c .row)) v) _ e)
 
@@ -35,8 +35,14 @@ module _ (l : List ℕ) where
     pub not-below-header : (k : ℕ) → c .row ≡ rows.last → c .place - (places.last - places.header) ≡ k → getD l k 0 ≤ getD l p 0
     not-below-header k e q =
         let v : ℕ = getD l (c .place) 0 in
-        let b = and-right (belowCount l (c .row) v) _ (narrowed c v (ok .in-range)) in
+        let b = and-left (fromHeader l c v) _ (and-right (belowCount l (c .row) v) _ (narrowed c v (ok .in-range))) in
         leb-true (getD l k 0) (getD l p 0) (rw (q, at) at (after-header l c v e ∙ b))
+
+    pub unwritten-zero : unwritten (editionIn l) c ≡ true → getD l p 0 ≡ 0
+    unwritten-zero none =
+        let v : ℕ = getD l (c .place) 0 in
+        let b = and-right (fromHeader l c v) _ (and-right (belowCount l (c .row) v) _ (narrowed c v (ok .in-range))) in
+        eqb-true (getD l p 0) 0 (rw at at (must-be-zero l c v none ∙ b))
 
     module _ (later : c .place ≡ base (c .row) → ⊥) where
       pub edge-order : (from to from′ : ℕ) → c .row ≡ rows.to → c .place - (places.edgeWidth + edgeSpan) ≡ from → c .place - places.edgeWidth ≡ to → c .place - edgeSpan ≡ from′ →

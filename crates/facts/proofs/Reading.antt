@@ -60,7 +60,7 @@ module _ {n : ℕ} {c : Field} (l : List ℕ) {m : List ℕ} (v : ℕ) (f : Vali
         }
 
 module _ {s : List ℕ} where
-  turned : {n at start : ℕ} {c : Field} {l : List ℕ} {end : ℕ} {m : List ℕ} → Valid c → length l ≡ numberCount →
+  pub turned : {n at start : ℕ} {c : Field} {l : List ℕ} {end : ℕ} {m : List ℕ} → Valid c → length l ≡ numberCount →
       Reads s n at start c l end m → ReadInto n c l m
   unfolding fillFrom
   turned f size Reads.none = record { good = Good.none; size = size; before = λ k h. refl; filled = refl }

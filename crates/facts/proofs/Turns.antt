@@ -9,8 +9,7 @@ use Rattle.model.specs.declared.Number.the-variants.{Value, Ended, Misspelt}
 use Rattle.model.specs.declared.Refusal.{Refusal}
 use Rattle.model.specs.declared.Field.{Field}
 use Rattle.model.specs.declared.FieldsAnswer.the-variants.{Done, Refused}
-use Rattle.model.specs.Spelling.{readNumber}
-use Rattle.model.specs.File.{atEnd, nextField, inRange, ascends, itemStart, Scan, scanned, onNumber, readFrom}
+use Rattle.model.specs.File.{atEnd, nextField, editionIn, readField, inRange, ascends, itemStart, Scan, scanned, onNumber, readFrom}
 use Rattle.model.proofs.Answers.{refused-not-done}
 use Rattle.model.proofs.Cases.{by-cond}
 
@@ -18,7 +17,7 @@ use Rattle.model.proofs.Cases.{by-cond}
 pub data Reads (s : List ℕ) : ℕ → ℕ → ℕ → Field → List ℕ → ℕ → List ℕ → Type 0 where
   none : {at start : ℕ} {c : Field} {l : List ℕ} → Reads s zero at start c l at l
   over : {n at start : ℕ} {c : Field} {l : List ℕ} → atEnd c ≡ true → Reads s (suc n) at start c l at l
-  on : {n at start : ℕ} {c : Field} {l : List ℕ} {end : ℕ} {m : List ℕ} (v next : ℕ) → atEnd c ≡ false → readNumber s at ≡ Value v next →
+  on : {n at start : ℕ} {c : Field} {l : List ℕ} {end : ℕ} {m : List ℕ} (v next : ℕ) → atEnd c ≡ false → readField (editionIn l) s at c ≡ Value v next →
       inRange l c v ≡ true → ascends (set l (c .place) v) c ≡ true →
       Reads s n next (itemStart c at start) (nextField c v) (set l (c .place) v) end m → Reads s (suc n) at start c l end m
 
@@ -57,7 +56,7 @@ module _ (s : List ℕ) (end : ℕ) (m : List ℕ) where
   reads (suc n) at start c l =
       let P : Scan → Type 0 = Told (suc n) at start c l in
       by-cond P (atEnd c) (λ e. done-there (λ o k. Reads s (suc n) at start c l o k) at l (Reads.over e))
-      (λ e. on-value (readNumber s at) (length s) at l _
+      (λ e. on-value (readField (editionIn l) s at c) (length s) at l _
       (λ v next q. by-cond P (inRange l c v)
       (λ r. by-cond P (ascends (set l (c .place) v) c)
       (λ a o. Reads.on v next e q r a (reads n next (itemStart c at start) (nextField c v) (set l (c .place) v) o))

@@ -6,10 +6,11 @@ use mathlib.Core.Bool.{true}
 use lib.ListN.{getD}
 use Rattle.model.specs.File.{edgeBefore}
 use Rattle.model.specs.Places as places
-use Rattle.model.specs.Limits.{mostBytes, mostCycles, mostVisits}
+use Rattle.model.specs.Limits.{firstEdition, secondEdition, mostBytes, mostCycles, mostCheck, mostVisits}
 
 pub record FieldFacts (l : List ℕ) : Type 0 where
-  pub edition : getD l places.edition 0 ≡ 1
+  pub edition-low : firstEdition ≤ getD l places.edition 0
+  pub edition-high : getD l places.edition 0 ≤ secondEdition
   pub scratchpad-low : 1 ≤ getD l places.scratchpad 0
   pub scratchpad-high : getD l places.scratchpad 0 ≤ mostBytes
   pub some-function : 1 ≤ getD l places.functionCount 0
@@ -20,6 +21,8 @@ pub record FieldFacts (l : List ℕ) : Type 0 where
   pub loops : getD l places.loopCount 0 ≤ places.mostLoops
   pub size : (i : ℕ) → i < getD l places.functionCount 0 → (1 ≤ getD l (places.size + places.functionWidth * i) 0) × (getD l (places.size + places.functionWidth * i) 0 ≤ mostBytes)
   pub load : (i : ℕ) → i < getD l places.functionCount 0 → getD l (places.load + places.functionWidth * i) 0 ≤ mostCycles
+  pub check : (i : ℕ) → i < getD l places.functionCount 0 → getD l (places.check + places.functionWidth * i) 0 ≤ mostCheck
+  pub unchecked : getD l places.edition 0 ≡ firstEdition → (i : ℕ) → i < getD l places.functionCount 0 → getD l (places.check + places.functionWidth * i) 0 ≡ 0
   pub function : (i : ℕ) → i < getD l places.vertexCount 0 → getD l (places.function + places.vertexWidth * i) 0 < getD l places.functionCount 0
   pub cost : (i : ℕ) → i < getD l places.vertexCount 0 → getD l (places.cost + places.vertexWidth * i) 0 ≤ mostCycles
   pub from : (i : ℕ) → i < getD l places.edgeCount 0 → getD l (places.from + places.edgeWidth * i) 0 < getD l places.vertexCount 0

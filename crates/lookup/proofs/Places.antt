@@ -13,7 +13,7 @@ use Rattle.model.specs.Zero.{zeroFunction, zeroVertex, zeroEdge, zeroLoop}
 use Rattle.model.specs.Numbers.{problemOf, functionAt, vertexAt, edgeAt, loopAt}
 use Rattle.model.specs.Operations.{Checked}
 use Rattle.model.specs.Graph.{edge, loop, functionsOf, verticesOf}
-use Rattle.model.specs.Costs.{sizeOf, loadCost, functionOf, ownCost}
+use Rattle.model.specs.Costs.{sizeOf, loadCost, checkCost, functionOf, ownCost}
 use Rattle.model.proofs.Lists.{length-take-table, getD-take-table}
 use Rattle.facts.specs.Fields.{FieldFacts}
 use Rattle.facts.proofs.Facts.{field-facts}
@@ -79,11 +79,17 @@ module _ (l : List ℕ) where
       pub load-at : loadCost (problemOf l) f ≡ getD l (places.load + places.functionWidth * f) 0
       load-at = ap (λ (x : Function). x .load .0) function-item
 
+      pub check-at : checkCost (problemOf l) f ≡ getD l (places.check + places.functionWidth * f) 0
+      check-at = ap (λ (x : Function). x .check .0) function-item
+
       pub size-high : sizeOf (problemOf l) f ≤ limits.mostBytes
       size-high = omega (arith, size-at, ok .size f listed-function)
 
       pub load-high : loadCost (problemOf l) f ≤ limits.mostCycles
       load-high = omega (arith, load-at, ok .load f listed-function)
+
+      pub check-high : checkCost (problemOf l) f ≤ limits.mostCheck
+      check-high = omega (arith, check-at, ok .check f listed-function)
 
     module _ (v : ℕ) (below : v < verticesIn l) where
       vertex-item : getD (verticesOf (problemOf l)) v zeroVertex ≡ vertexAt l v

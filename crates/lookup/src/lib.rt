@@ -8,7 +8,7 @@ ghost use Prim.Native.Nat.{_<_};
 ghost use lib.ListN.{length};
 ghost use Rattle.model.specs.Numbers.{problemOf};
 ghost use Rattle.model.specs.Graph.{edge, loop, holds};
-ghost use Rattle.model.specs.Costs.{sizeOf, loadCost, functionOf, ownCost};
+ghost use Rattle.model.specs.Costs.{sizeOf, loadCost, checkCost, functionOf, ownCost};
 ghost use Rattle.facts.specs.Fields.{FieldFacts};
 ghost use Rattle.lookup.specs.Lists.{verticesIn, edgesIn, loopsIn};
 ghost use Rattle.lookup.specs.Plain.{rangeOf};
@@ -37,6 +37,13 @@ pub fn load_of(l: &Numbers, f: usize) -> Cycles
     ensures { λ r. ⌜ r .0 ≡ loadCost (problemOf (now (l .entry))) f ⌝ }
 {
     Cycles(l[places::LOAD + places::FUNCTION_WIDTH * f])
+}
+
+pub fn check_of(l: &Numbers, f: usize) -> Cycles
+    requires { ⌜ FieldFacts (now l) ⌝ ∗ ⌜ f < problemOf (now l) .«function_count» ⌝ }
+    ensures { λ r. ⌜ r .0 ≡ checkCost (problemOf (now (l .entry))) f ⌝ }
+{
+    Cycles(l[places::CHECK + places::FUNCTION_WIDTH * f])
 }
 
 pub fn vertex_count(l: &Numbers) -> usize

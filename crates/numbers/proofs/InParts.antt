@@ -12,7 +12,7 @@ use Rattle.model.specs.declared.Edge.{Edge}
 use Rattle.model.specs.declared.Loop.{Loop}
 use Rattle.model.specs.Zero.{zeroFunction, zeroVertex, zeroEdge, zeroLoop}
 use Rattle.model.specs.Places as places
-use Rattle.model.specs.Numbers.{functionNumbers, vertexNumbers, edgeNumbers, loopNumbers, numbersOf, inPlaces}
+use Rattle.model.specs.Numbers.{functionNumbers, vertexNumbers, edgeNumbers, loopNumbers, numbersIn, inPlaces}
 use Rattle.model.proofs.Cases.{by-order}
 use Rattle.model.proofs.Lists.{length-table, getD-table, getD-replicate-self}
 use Rattle.numbers.specs.InParts.{inParts}
@@ -118,20 +118,20 @@ four-parts a b c e p q r s =
     ∙ append-assoc A B (C ++ E)
 
 pub stored-parts :
-    (scratchpad functionCount : ℕ) (fs : List Function) (vertexCount : ℕ) (vs : List Vertex) (edgeCount : ℕ) (es : List Edge) (loopCount : ℕ) (ls : List Loop) →
+    (edition scratchpad functionCount : ℕ) (fs : List Function) (vertexCount : ℕ) (vs : List Vertex) (edgeCount : ℕ) (es : List Edge) (loopCount : ℕ) (ls : List Loop) →
     length fs ≤ places.mostFunctions → length vs ≤ places.mostVertices → length es ≤ places.mostEdges → length ls ≤ places.mostLoops →
-    sets (sets (sets (sets (replicate places.end 0) places.edition (1 ∷ scratchpad ∷ functionCount ∷ flatMap functionNumbers fs))
+    sets (sets (sets (sets (replicate places.end 0) places.edition (edition ∷ scratchpad ∷ functionCount ∷ flatMap functionNumbers fs))
     places.vertexCount (vertexCount ∷ flatMap vertexNumbers vs)) places.edgeCount (edgeCount ∷ flatMap edgeNumbers es)) places.loopCount (loopCount ∷ flatMap loopNumbers ls)
-    ≡ numbersOf (inParts scratchpad functionCount fs vertexCount vs edgeCount es loopCount ls)
-unfolding numbersOf
-stored-parts scratchpad functionCount fs vertexCount vs edgeCount es loopCount ls few-fs few-vs few-es few-ls =
-    four-parts (1 ∷ scratchpad ∷ functionCount ∷ flatMap functionNumbers fs) (vertexCount ∷ flatMap vertexNumbers vs) (edgeCount ∷ flatMap edgeNumbers es) (loopCount ∷ flatMap loopNumbers ls)
+    ≡ numbersIn edition (inParts scratchpad functionCount fs vertexCount vs edgeCount es loopCount ls)
+unfolding numbersIn
+stored-parts edition scratchpad functionCount fs vertexCount vs edgeCount es loopCount ls few-fs few-vs few-es few-ls =
+    four-parts (edition ∷ scratchpad ∷ functionCount ∷ flatMap functionNumbers fs) (vertexCount ∷ flatMap vertexNumbers vs) (edgeCount ∷ flatMap edgeNumbers es) (loopCount ∷ flatMap loopNumbers ls)
     (omega (arith, length-flatMap functionNumbers places.functionWidth (λ a. refl) fs))
     (omega (arith, length-flatMap vertexNumbers places.vertexWidth (λ a. refl) vs))
     (omega (arith, length-flatMap edgeNumbers places.edgeWidth (λ a. refl) es))
     (omega (arith, length-flatMap loopNumbers places.loopWidth (λ a. refl) ls))
     ∙ sym (
-    ap₂ (λ (x y : List ℕ). x ++ y) (whole-part functionNumbers places.functionWidth (λ a. refl) zeroFunction refl places.mostFunctions places.vertexCount (1 ∷ scratchpad ∷ functionCount ∷ []) fs few-fs refl)
+    ap₂ (λ (x y : List ℕ). x ++ y) (whole-part functionNumbers places.functionWidth (λ a. refl) zeroFunction refl places.mostFunctions places.vertexCount (edition ∷ scratchpad ∷ functionCount ∷ []) fs few-fs refl)
     (ap₂ (λ (x y : List ℕ). x ++ y) (whole-part vertexNumbers places.vertexWidth (λ a. refl) zeroVertex refl places.mostVertices vertexRoom (vertexCount ∷ []) vs few-vs refl)
     (ap₂ (λ (x y : List ℕ). x ++ y) (whole-part edgeNumbers places.edgeWidth (λ a. refl) zeroEdge refl places.mostEdges edgeRoom (edgeCount ∷ []) es few-es refl)
     (whole-part loopNumbers places.loopWidth (λ a. refl) zeroLoop refl places.mostLoops loopRoom (loopCount ∷ []) ls few-ls refl))))

@@ -1,4 +1,4 @@
--- A problem's numbers say the problem, and the problem of a full list of numbers of edition 1 has those numbers.
+-- A problem's numbers in an edition say the problem, and the problem of a full list of numbers has those numbers in their edition.
 use Prim.Native.Nat.{ℕ}
 use mathlib.Core.Path.{_≡_, refl, sym, ap, _∙_}
 use mathlib.Core.List.{List, [], _∷_, _++_, flatMap, append-nil}
@@ -10,16 +10,17 @@ use Rattle.model.specs.declared.Edge.{Edge}
 use Rattle.model.specs.declared.Loop.{Loop}
 use Rattle.model.specs.declared.Problem.{Problem}
 use Rattle.model.specs.Zero.{bytes, cycles, zeroFunction, zeroVertex, zeroEdge, zeroLoop}
-use Rattle.model.specs.Numbers.{functionNumbers, vertexNumbers, edgeNumbers, loopNumbers, table, functionAt, vertexAt, edgeAt, loopAt, numbersOf, problemOf, Sized}
+use Rattle.model.specs.Numbers.{functionNumbers, vertexNumbers, edgeNumbers, loopNumbers, table, functionAt, vertexAt, edgeAt, loopAt, numbersIn, problemOf, Sized}
+use Rattle.model.specs.File.{editionIn}
 use Rattle.model.proofs.Lists.{length-table, is-table}
 use Rattle.numbers.proofs.Parts.{functionPart, vertexPart, edgePart, loopPart, in-parts, Lengths, lengths}
 use Rattle.numbers.proofs.Items.{drop-behind, head-of, item-number, flat-table, two-numbers, three-numbers, cons-drop}
 use Rattle.model.specs.Places as places
 
-pub numbers-length : (p : Problem) → Sized p → length (numbersOf p) ≡ places.end
-numbers-length p sized =
-    let long : Lengths p = lengths p sized in
-    rw in-parts (simp length-append (omega arith))
+pub numbers-length : (edition : ℕ) (p : Problem) → Sized p → length (numbersIn edition p) ≡ places.end
+numbers-length edition p sized =
+    let long : Lengths edition p = lengths edition p sized in
+    rw (in-parts edition p) (simp length-append (omega arith))
 
 pub sized-problem : (l : List ℕ) → Sized (problemOf l)
 unfolding problemOf
@@ -43,6 +44,7 @@ module _ (l : List ℕ) where
       record {
         size = bytes (number k 0 zeroFunction (omega arith) (omega arith) i);
         load = cycles (number k 1 zeroFunction (omega arith) (omega arith) i);
+        check = cycles (number k 2 zeroFunction (omega arith) (omega arith) i);
       }))
 
   vertices-back : (xs : List Vertex) (ys : List ℕ) → length xs ≡ places.mostVertices → drop places.function l ≡ flatMap vertexNumbers xs ++ ys → xs ≡ table places.mostVertices (vertexAt l)
@@ -82,20 +84,20 @@ module _ (l : List ℕ) where
         bound = number k 2 zeroLoop (omega arith) (omega arith) i;
       }))
 
-pub problem-of-numbers : (p : Problem) → Sized p → problemOf (numbersOf p) ≡ p
+pub problem-of-numbers : (edition : ℕ) (p : Problem) → Sized p → problemOf (numbersIn edition p) ≡ p
 unfolding problemOf
-problem-of-numbers p sized =
-    let l : List ℕ = numbersOf p in
-    let long : Lengths p = lengths p sized in
+problem-of-numbers edition p sized =
+    let l : List ℕ = numbersIn edition p in
+    let long : Lengths edition p = lengths edition p sized in
     let at-functions : drop places.size l ≡ flatMap functionNumbers (p .functions) ++ (vertexPart p ++ (edgePart p ++ loopPart p)) =
-    ap (λ (r : List ℕ). drop places.size r) (in-parts p) in
-    let at-vertices : drop places.vertexCount l ≡ vertexPart p ++ (edgePart p ++ loopPart p) = drop-behind l (functionPart p) _ places.edition places.vertexCount (in-parts p) (omega arith) in
+    ap (λ (r : List ℕ). drop places.size r) (in-parts edition p) in
+    let at-vertices : drop places.vertexCount l ≡ vertexPart p ++ (edgePart p ++ loopPart p) = drop-behind l (functionPart edition p) _ places.edition places.vertexCount (in-parts edition p) (omega arith) in
     let at-edges : drop places.edgeCount l ≡ edgePart p ++ loopPart p = drop-behind l (vertexPart p) _ places.vertexCount places.edgeCount at-vertices (omega arith) in
     let at-loops : drop places.loopCount l ≡ loopPart p = drop-behind l (edgePart p) _ places.edgeCount places.loopCount at-edges (omega arith) in
     λ i.
     record {
-      scratchpad = bytes (getD (in-parts p i) places.scratchpad 0);
-      «function_count» = getD (in-parts p i) places.functionCount 0;
+      scratchpad = bytes (getD (in-parts edition p i) places.scratchpad 0);
+      «function_count» = getD (in-parts edition p i) places.functionCount 0;
       functions = sym (functions-back l (p .functions) _ (sized .functions) at-functions) i;
       «vertex_count» = head-of l places.vertexCount _ _ at-vertices i;
       vertices = sym (vertices-back l (p .vertices) _ (sized .vertices) (drop-behind l (p .«vertex_count» ∷ []) _ places.vertexCount places.function at-vertices refl)) i;
@@ -109,15 +111,15 @@ problem-of-numbers p sized =
           i;
     }
 
-pub numbers-of-problem : (l : List ℕ) → length l ≡ places.end → getD l places.edition 0 ≡ 1 → numbersOf (problemOf l) ≡ l
-unfolding numbersOf problemOf
-numbers-of-problem l long edition =
+pub numbers-of-problem : (l : List ℕ) → length l ≡ places.end → numbersIn (editionIn l) (problemOf l) ≡ l
+unfolding numbersIn problemOf
+numbers-of-problem l long =
     let fs : List ℕ = flatMap functionNumbers (table places.mostFunctions (functionAt l)) in
     let vs : List ℕ = flatMap vertexNumbers (table places.mostVertices (vertexAt l)) in
     let es : List ℕ = flatMap edgeNumbers (table places.mostEdges (edgeAt l)) in
     let os : List ℕ = flatMap loopNumbers (table places.mostLoops (loopAt l)) in
     let from-functions : fs ++ drop places.vertexCount l ≡ drop places.size l =
-    flat-table functionNumbers places.functionWidth (λ a. refl) l places.size (functionAt l) (two-numbers _ (λ k. refl) (λ k. refl)) places.mostFunctions (omega arith) in
+    flat-table functionNumbers places.functionWidth (λ a. refl) l places.size (functionAt l) (three-numbers _ (λ k. refl) (λ k. refl) (λ k. refl)) places.mostFunctions (omega arith) in
     let from-vertices : vs ++ drop places.edgeCount l ≡ drop places.function l =
     flat-table vertexNumbers places.vertexWidth (λ a. refl) l places.function (vertexAt l) (two-numbers _ (λ k. refl) (λ k. refl)) places.mostVertices (omega arith) in
     let from-edges : es ++ drop places.loopCount l ≡ drop places.from l =
@@ -131,6 +133,6 @@ numbers-of-problem l long edition =
     cons-drop l places.edgeCount _ _ (omega arith) refl (ap (λ (r : List ℕ). es ++ r) loops ∙ from-edges) in
     let vertices : getD l places.vertexCount 0 ∷ (vs ++ (getD l places.edgeCount 0 ∷ (es ++ (getD l places.loopCount 0 ∷ os)))) ≡ drop places.vertexCount l =
     cons-drop l places.vertexCount _ _ (omega arith) refl (ap (λ (r : List ℕ). vs ++ r) edges ∙ from-vertices) in
-    cons-drop l places.edition _ _ (omega arith) (sym edition)
+    cons-drop l places.edition _ _ (omega arith) refl
     (cons-drop l places.scratchpad _ _ (omega arith) refl
     (cons-drop l places.functionCount _ _ (omega arith) refl (ap (λ (r : List ℕ). fs ++ r) vertices ∙ from-functions)))

@@ -7,3 +7,4 @@ pub mod Assembled
 pub mod Edition
 pub mod InParts
 pub mod Tables
+pub mod Written

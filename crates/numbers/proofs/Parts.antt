@@ -5,14 +5,11 @@ use mathlib.Core.List.{List, _∷_, _++_, flatMap}
 use native.Mathlib.Omega.{arith}
 use lib.ListN.{length}
 use Rattle.model.specs.declared.Problem.{Problem}
-use Rattle.model.specs.Numbers.{functionNumbers, vertexNumbers, edgeNumbers, loopNumbers, numbersOf, Sized}
+use Rattle.model.specs.Numbers.{functionNumbers, vertexNumbers, edgeNumbers, loopNumbers, numbersIn, Sized}
 use Rattle.numbers.proofs.Places.{length-flatMap}
 use Rattle.model.specs.Places as places
 
 module _ (p : Problem) where
-  abbrev pub functionPart : List ℕ
-  functionPart = 1 ∷ p .scratchpad .0 ∷ p .«function_count» ∷ flatMap functionNumbers (p .functions)
-
   abbrev pub vertexPart : List ℕ
   vertexPart = p .«vertex_count» ∷ flatMap vertexNumbers (p .vertices)
 
@@ -22,15 +19,19 @@ module _ (p : Problem) where
   abbrev pub loopPart : List ℕ
   loopPart = p .«loop_count» ∷ flatMap loopNumbers (p .loops)
 
-  pub in-parts : numbersOf p ≡ functionPart ++ (vertexPart ++ (edgePart ++ loopPart))
-  unfolding numbersOf
+module _ (edition : ℕ) (p : Problem) where
+  abbrev pub functionPart : List ℕ
+  functionPart = edition ∷ p .scratchpad .0 ∷ p .«function_count» ∷ flatMap functionNumbers (p .functions)
+
+  pub in-parts : numbersIn edition p ≡ functionPart ++ (vertexPart p ++ (edgePart p ++ loopPart p))
+  unfolding numbersIn
   in-parts = refl
 
   pub record Lengths : Type 0 where
     pub functions : length functionPart ≡ places.vertexCount
-    pub vertices : length vertexPart ≡ places.edgeCount - places.vertexCount
-    pub edges : length edgePart ≡ places.loopCount - places.edgeCount
-    pub loops : length loopPart ≡ places.end - places.loopCount
+    pub vertices : length (vertexPart p) ≡ places.edgeCount - places.vertexCount
+    pub edges : length (edgePart p) ≡ places.loopCount - places.edgeCount
+    pub loops : length (loopPart p) ≡ places.end - places.loopCount
 
   pub lengths : Sized p → Lengths
   lengths sized =

@@ -5,11 +5,15 @@ use model::Loop;
 use model::Numbers;
 use model::Problem;
 use model::Vertex;
+use model::limits;
 use model::places;
 ghost use mathlib.Core.Path.{_≡_};
 ghost use mathlib.Core.List.{_∷_};
+ghost use Prim.Native.Nat.{min};
+ghost use lib.ListN.{set};
 ghost use Rattle.model.specs.Places as spot;
-ghost use Rattle.model.specs.Numbers.{functionNumbers, vertexNumbers, edgeNumbers, loopNumbers};
+ghost use Rattle.model.specs.Graph.{functionsOf};
+ghost use Rattle.model.specs.Numbers.{someCheck, editionOf, problemOf, functionNumbers, vertexNumbers, edgeNumbers, loopNumbers};
 ghost use Rattle.numbers.specs.Numbered.{Numbered, Stored};
 
 // Each list stored at its places, item by item.
@@ -21,6 +25,7 @@ fn put_functions(l: &mut Numbers, functions: [Function; places::MOST_FUNCTIONS])
         let f = functions[i];
         l[places::SIZE + places::FUNCTION_WIDTH * i] = f.size.0;
         l[places::LOAD + places::FUNCTION_WIDTH * i] = f.load.0;
+        l[places::CHECK + places::FUNCTION_WIDTH * i] = f.check.0;
         i += 1;
     }
 }
@@ -62,12 +67,54 @@ fn put_loops(l: &mut Numbers, loops: [Loop; places::MOST_LOOPS])
     }
 }
 
+// How many of the functions' places a count takes, however large it is.
+fn places_taken(count: usize) -> usize
+    ensures { λ r. ⌜ r ≡ min count spot.mostFunctions ⌝ }
+{
+    if count < places::MOST_FUNCTIONS {
+        return count;
+    }
+    places::MOST_FUNCTIONS
+}
+
+// Whether a function below the count has a check cost above 0.
+fn some_check(l: &Numbers) -> bool
+    ensures { λ r. ⌜ r ≡ someCheck (functionsOf (problemOf (now (l .entry)))) ⌝ }
+{
+    let taken = places_taken(l[places::FUNCTION_COUNT] as usize);
+    let mut i: usize = 0;
+    while i < taken {
+        if 0 < l[places::CHECK + places::FUNCTION_WIDTH * i] {
+            return true;
+        }
+        i += 1;
+    }
+    false
+}
+
+// The edition that is written of a problem's numbers, whichever they have.
+fn edition_of(l: &Numbers) -> u64
+    ensures { λ r. ⌜ r ≡ editionOf (problemOf (now (l .entry))) ⌝ }
+{
+    if some_check(l) {
+        return limits::SECOND_EDITION as u64;
+    }
+    limits::FIRST_EDITION as u64
+}
+
+// Puts the edition that is written of the other numbers.
+pub fn put_edition(l: &mut Numbers)
+    ensures { λ _. ⌜ now (l .exit) ≡ set (now (l .entry)) spot.edition (editionOf (problemOf (now (l .entry)))) ⌝ }
+{
+    let edition = edition_of(l);
+    l[places::EDITION] = edition;
+}
+
 // The problem's numbers at their places. An array field's length is known once it is passed by value.
 pub fn numbers_of(p: Problem) -> Numbers
     ensures { λ r. ⌜ Numbered p r ⌝ }
 {
     let mut l = [0u64; places::END];
-    l[places::EDITION] = 1;
     l[places::SCRATCHPAD] = p.scratchpad.0;
     l[places::FUNCTION_COUNT] = p.function_count as u64;
     let functions = p.functions;
@@ -81,10 +128,11 @@ pub fn numbers_of(p: Problem) -> Numbers
     l[places::LOOP_COUNT] = p.loop_count as u64;
     let loops = p.loops;
     put_loops(&mut l, loops);
+    put_edition(&mut l);
     l
 }
 
-// A problem's numbers: the edition, which is 1, and then the fields.
+// A problem's numbers from its fields. The edition, which is no part of the problem, stands as 1.
 pub fn with_edition(fields: [u32; places::FIELD_COUNT]) -> Numbers
     ensures { λ r. ⌜ r ≡ 1 ∷ fields ⌝ }
 {

@@ -19,12 +19,14 @@ fn functions_of(l: &Numbers) -> [Function; places::MOST_FUNCTIONS]
     let mut out = [Function {
         size: Bytes(0),
         load: Cycles(0),
+        check: Cycles(0),
     }; places::MOST_FUNCTIONS];
     let mut i: usize = 0;
     while i < places::MOST_FUNCTIONS {
         out[i] = Function {
             size: Bytes(l[places::SIZE + places::FUNCTION_WIDTH * i]),
             load: Cycles(l[places::LOAD + places::FUNCTION_WIDTH * i]),
+            check: Cycles(l[places::CHECK + places::FUNCTION_WIDTH * i]),
         };
         i += 1;
     }

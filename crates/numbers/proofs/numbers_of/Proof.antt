@@ -28,18 +28,19 @@ array-write-l-5 c = search needs
 put-edges-requires : tie.Need-put-edges-requires
 put-edges-requires c κs = search needs
 
-array-write-l-6 : tie.Need-array-write-l-6
-array-write-l-6 c = search needs
-
 put-loops-requires : tie.Need-put-loops-requires
 put-loops-requires c κs = search needs
 
+put-edition-requires : tie.Need-put-edition-requires
+put-edition-requires c κs = search needs
+
 returns : tie.Need-returns
 returns c =
-    let edges = c .before .before .before in
+    let loops = c .before .before in
+    let edges = loops .before .before .before in
     let vertices = edges .before .before .before in
     let functions = vertices .before .before .before in
-    numbered _ _ _ _ _ (functions .put-functions .ensures) (vertices .put-vertices .ensures) (edges .put-edges .ensures) (c .put-loops .ensures)
+    numbered _ _ _ _ _ _ (functions .put-functions .ensures) (vertices .put-vertices .ensures) (edges .put-edges .ensures) (loops .put-loops .ensures) (c .put-edition .ensures)
 
 pub numbers-of-spec : {M : Type 1} → statement M
 numbers-of-spec =
@@ -47,12 +48,12 @@ numbers-of-spec =
     (tie.spec
     array-write-l
     array-write-l-2
-    array-write-l-3
     put-functions-requires
-    array-write-l-4
+    array-write-l-3
     put-vertices-requires
-    array-write-l-5
+    array-write-l-4
     put-edges-requires
-    array-write-l-6
+    array-write-l-5
     put-loops-requires
+    put-edition-requires
     returns)

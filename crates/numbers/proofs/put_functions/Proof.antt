@@ -4,7 +4,7 @@ use borrow.Author.Needs.{needs}
 use Rattle.model.specs.declared.Function.{Function}
 use Rattle.model.specs.Zero.{zeroFunction}
 use Rattle.model.specs.Numbers.{functionNumbers}
-use Rattle.numbers.proofs.Places.{Storing, stored-none, stored-two, stored-all}
+use Rattle.numbers.proofs.Places.{Storing, stored-none, stored-three, stored-all}
 use Rattle.numbers.proofs.put_functions.Statement.{statement}
 use Rattle.numbers.proofs.put_functions.Tie as tie
 use Rattle.model.specs.Places as places
@@ -48,6 +48,18 @@ mul-l-4 c = search needs
 element-write-l-2 : tie.Need-element-write-l-2 Inv-loop μ-loop
 element-write-l-2 c = search needs
 
+mul-l-5 : tie.Need-mul-l-5 Inv-loop μ-loop
+mul-l-5 c = search needs
+
+add-l-3 : tie.Need-add-l-3 Inv-loop μ-loop
+add-l-3 c = search needs
+
+mul-l-6 : tie.Need-mul-l-6 Inv-loop μ-loop
+mul-l-6 c = search needs
+
+element-write-l-3 : tie.Need-element-write-l-3 Inv-loop μ-loop
+element-write-l-3 c = search needs
+
 add-i : tie.Need-add-i Inv-loop μ-loop
 add-i c = search needs
 
@@ -56,7 +68,7 @@ loop-less c = search needs
 
 loop-again : tie.Need-loop-again Inv-loop μ-loop
 loop-again c =
-    stored-two (λ (f : Function). f .size .0) (λ (f : Function). f .load .0) places.mostFunctions places.size _ _ _ zeroFunction _
+    stored-three (λ (f : Function). f .size .0) (λ (f : Function). f .load .0) (λ (f : Function). f .check .0) places.mostFunctions places.size _ _ _ zeroFunction _
     (c .before .loop-test .taken)
     (c .before .before .loop .inv)
 
@@ -80,6 +92,10 @@ put-functions-spec =
     add-l-2
     mul-l-4
     element-write-l-2
+    mul-l-5
+    add-l-3
+    mul-l-6
+    element-write-l-3
     add-i
     loop-less
     loop-again
