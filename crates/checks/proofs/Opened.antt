@@ -9,15 +9,16 @@ use Rattle.model.specs.declared.Verdict.the-variants as verdict
 use Rattle.model.specs.declared.FieldsAnswer.{FieldsAnswer}
 use Rattle.model.specs.declared.FieldsAnswer.the-variants.{Done, Refused}
 use Rattle.model.specs.declared.Problem.{Problem}
-use Rattle.model.specs.Numbers.{numbersOf, problemOf}
+use Rattle.model.specs.Numbers.{editionOf, numbersOf, problemOf}
 use Rattle.model.specs.File.{checkFields}
 use Rattle.model.specs.Graph.{judgeGraph}
 use Rattle.model.specs.Operations.{afterGraph, afterFields, checkProblem, Checked}
 use Rattle.model.specs.Verdicts.{asVerdict, judgeProblem}
 use Rattle.model.proofs.Answers.{refused-not-done, refused-not-accepted}
 use Rattle.numbers.specs.Numbered.{Numbered}
-use Rattle.numbers.proofs.Inverse.{numbers-length, problem-of-numbers, numbers-of-problem}
+use Rattle.numbers.proofs.Inverse.{numbers-length, problem-of-numbers}
 use Rattle.facts.proofs.Facts.{field-facts}
+use Rattle.roundtrip.proofs.Editions.{settled}
 use Rattle.checks.specs.Steps.{checkNumbers, judgeNumbers}
 
 -- Checks that end well had the fields and the graph end well.
@@ -46,11 +47,11 @@ accepted-as (Refused r) e = refused-not-accepted e
 module _ (p : Problem) (l : List ℕ) (numbered : Numbered p l) where
   -- The numbers are the problem's own.
   pub same-problem : problemOf l ≡ p
-  same-problem = ap problemOf (numbered .is) ∙ problem-of-numbers p (numbered .sized)
+  same-problem = ap problemOf (numbered .is) ∙ problem-of-numbers (editionOf p) p (numbered .sized)
 
   same-checks : checkNumbers l ≡ checkProblem p
   unfolding checkNumbers checkProblem
-  same-checks = rw (numbered .is) (ap (afterFields (checkFields (numbersOf p))) (problem-of-numbers p (numbered .sized)))
+  same-checks = rw (numbered .is) (ap (afterFields (checkFields (numbersOf p))) (problem-of-numbers (editionOf p) p (numbered .sized)))
 
   pub checks-problem : (f : FieldsAnswer) → f ≡ checkNumbers l → f ≡ checkProblem p
   checks-problem f is = is ∙ same-checks
@@ -65,13 +66,12 @@ module _ (p : Problem) (l : List ℕ) (numbered : Numbered p l) where
     opened e =
         let (need, done) = accepted-as (checkNumbers l) (sym is ∙ e) in
         let g : Good (checkFields l) (problemOf l) need = good (checkFields l) (problemOf l) need done in
-        record { size = ap length (numbered .is) ∙ numbers-length p (numbered .sized); need = need; fields = g .fields; graph = g .graph }
+        record { size = ap length (numbered .is) ∙ numbers-length (editionOf p) p (numbered .sized); need = need; fields = g .fields; graph = g .graph }
 
--- Checked numbers are those of a problem that passes its checks.
+-- Checked numbers are those of a problem that passes its checks, in whatever edition they are.
 pub checked-problem : (l : List ℕ) → Checked l → judgeProblem (problemOf l) ≡ verdict.Accepted
 unfolding judgeProblem checkProblem
 checked-problem l ok =
-    let own : numbersOf (problemOf l) ≡ l = numbers-of-problem l (ok .size) (field-facts l (ok .need) (ok .fields) .edition) in
-    ap (λ (m : List ℕ). asVerdict (afterFields (checkFields m) (problemOf l))) own
-    ∙ ap (λ (f : FieldsAnswer). asVerdict (afterFields f (problemOf l))) (ok .fields)
-    ∙ ap (λ (v : Verdict). asVerdict (afterGraph v (ok .need))) (ok .graph)
+    let (need, done) = settled l (ok .size) (field-facts l (ok .need) (ok .fields)) in
+    ap (λ (f : FieldsAnswer). asVerdict (afterFields f (problemOf l))) done
+    ∙ ap (λ (v : Verdict). asVerdict (afterGraph v need)) (ok .graph)

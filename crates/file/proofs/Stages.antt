@@ -15,15 +15,14 @@ use Rattle.model.specs.declared.Problem.{Problem}
 use Rattle.model.specs.declared.ReadAnswer.the-variants as read
 use Rattle.model.specs.declared.WriteAnswer.{WriteAnswer}
 use Rattle.model.specs.declared.WriteAnswer.the-variants as write
-use Rattle.model.specs.Numbers.{problemOf}
-use Rattle.model.specs.File.{Scan, scanned, readFields, checkFields, fileBytes}
+use Rattle.model.specs.Numbers.{editionOf, numbersIn, problemOf}
+use Rattle.model.specs.File.{editionIn, Scan, scanned, readFields, checkFields, fileBytes}
 use Rattle.model.specs.Graph.{judgeGraph}
 use Rattle.model.specs.Operations.{readVerdict, readRest, readFile, writeChecked, writeProblem, afterWrite, writtenBuffer, afterGraph, afterFields, Checked}
 use Rattle.model.specs.Verdicts.{asVerdict}
 use Rattle.model.proofs.Answers.{refused-not-accepted}
 use Rattle.numbers.specs.Numbered.{Numbered}
 use Rattle.numbers.proofs.Inverse.{sized-problem, numbers-of-problem}
-use Rattle.facts.proofs.Facts.{field-facts}
 use Rattle.writing.specs.Fits.{Fits}
 use Rattle.file.proofs.NumbersRead.{size-read, checked-read}
 use Rattle.checks.proofs.Opened.{good, checks-problem, refused-as}
@@ -100,8 +99,8 @@ module _ (l buf : List ℕ) (need : ℕ) (passed : checkNumbers l ≡ fields.Don
 
 -- Checked numbers are a problem's own, and their checks end with the length of their file.
 module _ (l : List ℕ) (ok : Checked l) (need : ℕ) (length-is : checkFields l ≡ fields.Done need) where
-  pub own : Numbered (problemOf l) l
-  own = record { is = sym (numbers-of-problem l (ok .size) (field-facts l need length-is .edition)); sized = sized-problem l }
+  pub own : editionIn l ≡ editionOf (problemOf l) → Numbered (problemOf l) l
+  own edition = record { is = sym (numbers-of-problem l (ok .size)) ∙ ap (λ (n : ℕ). numbersIn n (problemOf l)) edition; sized = sized-problem l }
 
   pub passes : checkNumbers l ≡ fields.Done need
   unfolding checkNumbers

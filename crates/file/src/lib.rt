@@ -11,8 +11,8 @@ ghost use mathlib.Core.Path.{_≡_};
 ghost use lib.ListN.{length, replicate};
 ghost use Rattle.model.specs.declared.Problem.{Problem};
 ghost use Rattle.model.specs.declared.FieldsAnswer.the-variants.{Done};
-ghost use Rattle.model.specs.File.{numberCount};
-ghost use Rattle.model.specs.Numbers.{problemOf};
+ghost use Rattle.model.specs.File.{numberCount, editionIn};
+ghost use Rattle.model.specs.Numbers.{editionOf, problemOf};
 ghost use Rattle.model.specs.Operations.{readFile, writeProblem, writtenBuffer, Checked};
 ghost use Rattle.model.specs.Outcomes.{readOutcome, writeOutcome, readSays, writeSays};
 ghost use Rattle.numbers.specs.Numbered.{Numbered};
@@ -73,9 +73,9 @@ pub fn write(problem: Problem, buf: &mut [u8]) -> WriteAnswer
     put_file(&numbers, need, buf)
 }
 
-// Write of a problem whose numbers passed its checks: an operation that goes on with a problem's numbers ends so.
+// Write of a problem whose numbers passed its checks, in the edition that is written: an operation that goes on with a problem's numbers ends so.
 pub fn write_checked(numbers: &Numbers, buf: &mut [u8]) -> WriteAnswer
-    requires { ⌜ Checked (now numbers) ⌝ }
+    requires { ⌜ Checked (now numbers) ⌝ ∗ ⌜ editionIn (now numbers) ≡ editionOf (problemOf (now numbers)) ⌝ }
     ensures { λ r. ⌜ r ≡ writeProblem (problemOf (now (numbers .entry))) (length (now (buf .entry))) ⌝ }
     ensures { λ r. ⌜ now (buf .exit) ≡ writtenBuffer (problemOf (now (numbers .entry))) (now (buf .entry)) ⌝ }
 {

@@ -8,20 +8,19 @@ use lib.ListN.{length, getD, length-append}
 use borrow.Author.Tests.{leb-false}
 use Rattle.model.specs.declared.Field.{Field}
 use Rattle.model.specs.declared.FieldsAnswer.the-variants.{Done}
-use Rattle.model.specs.Spelling.{numberSize, numberBytes}
-use Rattle.model.specs.File.{atEnd, nextField, checkFrom, bytesFrom}
+use Rattle.model.specs.File.{atEnd, nextField, editionIn, fieldSize, fieldBytes, checkFrom, bytesFrom}
 use Rattle.model.proofs.Cases.{by-bool}
 use Rattle.fields.proofs.OneField.{checked, bytes-over, bytes-on}
-use Rattle.spelling.proofs.Laws.{bytes-length}
+use Rattle.editions.proofs.Fields.{field-length}
 use Rattle.facts.proofs.Good.{Good}
 use Rattle.facts.proofs.Judging.{good-judged}
 use Rattle.model.specs.Rows as rows
 
 -- How many bytes the fields from c on take, where c has the number v.
 pub length-on : (n : ℕ) (c : Field) (l : List ℕ) (v : ℕ) → atEnd c ≡ false → getD l (c .place) 0 ≡ v →
-    length (bytesFrom (suc n) c l) ≡ numberSize v + length (bytesFrom n (nextField c v) l)
+    length (bytesFrom (suc n) c l) ≡ fieldSize (editionIn l) c v + length (bytesFrom n (nextField c v) l)
 length-on n c l v going here =
-    rw (bytes-on n c l v going here) (omega (arith, length-append (numberBytes v) (bytesFrom n (nextField c v) l), bytes-length v))
+    rw (bytes-on n c l v going here) (omega (arith, length-append (fieldBytes (editionIn l) c v) (bytesFrom n (nextField c v) l), field-length (editionIn l) c v))
 
 -- Judging ends where the bytes do.
 pub judged-ends : (l : List ℕ) (end n at start : ℕ) (c : Field) → checkFrom n at start c l ≡ Done end → end ≡ at + length (bytesFrom n c l)

@@ -7,21 +7,32 @@ use native.Mathlib.Omega.{arith}
 use lib.ListN.{length, getD, length-append, List·getD-append}
 use lib.Seq.{getD-append-add}
 use Rattle.model.specs.declared.Field.{Field}
-use Rattle.model.specs.Spelling.{Bytes, numberSize, groups, numberBytes}
-use Rattle.model.specs.File.{atEnd, nextField, bytesFrom}
+use Rattle.model.specs.Spelling.{Bytes, mostGroups, numberSize, groups, numberBytes}
+use Rattle.model.specs.File.{atEnd, nextField, editionIn, unwritten, fieldBytes, bytesFrom}
 use Rattle.model.proofs.Cases.{by-cond, by-order}
 use Rattle.fields.proofs.OneField.{bytes-over, bytes-on}
+use Rattle.fields.proofs.Editions.{bytes-written, bytes-unwritten}
 use Rattle.spelling.proofs.Laws.{size-five, groups-length, groups-bytes, bytes-length}
 use Rattle.roundtrip.specs.Files.{Padded, wideFrom}
 
--- Bytes that are none at the end, and else some number of groups of the number at c with the bytes of the fields after it.
-grouped : (l : List ℕ) (n : ℕ) (c : Field) (k : ℕ) (rest : List ℕ) → numberSize (getD l (c .place) 0) ≤ k → k ≤ 5 →
-    Padded l n (nextField c (getD l (c .place) 0)) rest → Padded l (suc n) c (cond (atEnd c) [] (groups k (getD l (c .place) 0) ++ rest))
-grouped l n c k rest enough few more = by-cond (Padded l (suc n) c) (atEnd c) Padded.over (λ e. Padded.on k e enough few more)
+module _ (l : List ℕ) (n : ℕ) (c : Field) where
+  abbrev v : ℕ
+  v = getD l (c .place) 0
+
+  abbrev edition : ℕ
+  edition = editionIn l
+
+  -- Bytes that are none at the end or where the number is not written, and else some number of its groups, with the bytes of the fields after it.
+  grouped : (k : ℕ) (rest : List ℕ) → numberSize v ≤ k → k ≤ mostGroups → Padded l n (nextField c v) rest →
+      Padded l (suc n) c (cond (atEnd c) [] (cond (unwritten edition c) [] (groups k v) ++ rest))
+  grouped k rest enough few more =
+      by-cond (Padded l (suc n) c) (atEnd c) Padded.over
+      (λ e. by-cond (λ (b : List ℕ). Padded l (suc n) c (b ++ rest)) (unwritten edition c)
+      (λ t. Padded.skip e t more) (λ t. Padded.on k e t enough few more))
 
 -- What is written is one of the files.
 pub unpadded : (l : List ℕ) (n : ℕ) (c : Field) → Padded l n c (bytesFrom n c l)
-unfolding bytesFrom
+unfolding bytesFrom fieldBytes
 unpadded l zero c = Padded.none
 unpadded l (suc n) c =
     grouped l n c (numberSize (getD l (c .place) 0)) _ (omega arith) (size-five (getD l (c .place) 0)) (unpadded l n (nextField c (getD l (c .place) 0)))
@@ -30,7 +41,7 @@ unpadded l (suc n) c =
 pub wide : (l : List ℕ) (n : ℕ) (c : Field) → Padded l n c (wideFrom n c l)
 unfolding wideFrom
 wide l zero c = Padded.none
-wide l (suc n) c = grouped l n c 5 _ (size-five (getD l (c .place) 0)) (omega arith) (wide l n (nextField c (getD l (c .place) 0)))
+wide l (suc n) c = grouped l n c mostGroups _ (size-five (getD l (c .place) 0)) (omega arith) (wide l n (nextField c (getD l (c .place) 0)))
 
 -- The bytes t are no fewer than the bytes b, and are b if they are no more.
 pub record NoShorter (b t : List ℕ) : Type 0 where
@@ -53,8 +64,9 @@ pub no-shorter : {l : List ℕ} {n : ℕ} {c : Field} {s : List ℕ} → Padded 
 unfolding bytesFrom
 no-shorter Padded.none = record { long = omega arith; same = λ h. refl }
 no-shorter {l} {c = c} (Padded.over {n} e) = rw (bytes-over n c l e) (record { long = omega arith; same = λ h. refl })
-no-shorter {l} {c = c} (Padded.on {n} {rest = rest} k e enough few more) =
-    rw (bytes-on n c l _ e refl) (one-more k (getD l (c .place) 0) _ rest enough (no-shorter more))
+no-shorter {l} {c = c} (Padded.skip {n} e t more) = rw (bytes-on n c l _ e refl, bytes-unwritten (editionIn l) c t (getD l (c .place) 0)) (no-shorter more)
+no-shorter {l} {c = c} (Padded.on {n} {rest = rest} k e t enough few more) =
+    rw (bytes-on n c l _ e refl, bytes-written (editionIn l) c t (getD l (c .place) 0)) (one-more k (getD l (c .place) 0) _ rest enough (no-shorter more))
 
 -- Files are bytes.
 append-bytes : (a b : List ℕ) → Bytes a → Bytes b → Bytes (a ++ b)
@@ -67,4 +79,5 @@ append-bytes a b f g i =
 pub padded-bytes : {l : List ℕ} {n : ℕ} {c : Field} {s : List ℕ} → Padded l n c s → Bytes s
 padded-bytes Padded.none i = omega arith
 padded-bytes (Padded.over e) i = omega arith
-padded-bytes {l} {c = c} (Padded.on {rest = rest} k e enough few more) i = append-bytes (groups k (getD l (c .place) 0)) rest (groups-bytes k _) (λ j. padded-bytes more j) i
+padded-bytes (Padded.skip e t more) i = padded-bytes more i
+padded-bytes {l} {c = c} (Padded.on {rest = rest} k e t enough few more) i = append-bytes (groups k (getD l (c .place) 0)) rest (groups-bytes k _) (λ j. padded-bytes more j) i

@@ -1,8 +1,11 @@
 pub mod Ends
+pub mod Editions
 pub mod Files
+pub mod Saved
 pub mod Reading
 pub mod Writing
 pub mod Prefix
 pub mod Same
 pub mod Answers
 pub mod Trip
+pub mod EditionsRead

@@ -13,30 +13,29 @@ use Rattle.model.specs.declared.Number.the-variants.{Value, Ended, Misspelt}
 use Rattle.model.specs.declared.Field.{Field}
 use Rattle.model.specs.declared.FieldsAnswer.{FieldsAnswer}
 use Rattle.model.specs.declared.FieldsAnswer.the-variants.{Done, Refused}
-use Rattle.model.specs.Spelling.{readNumber}
-use Rattle.model.specs.File.{numberCount, readLength, firstField, atEnd, nextField, itemStart, Scan, scanned, readFrom}
+use Rattle.model.specs.File.{numberCount, readLength, firstField, atEnd, nextField, editionIn, readField, itemStart, Scan, scanned, readFrom}
 use Rattle.model.specs.Operations.{readRest, readFile}
 use Rattle.model.proofs.Cases.{by-bool}
-use Rattle.spelling.proofs.Prefix.{number-prefix, number-ends, never-ended}
+use Rattle.editions.proofs.Fields.{field-near, field-prefix, field-never-ended}
 use Rattle.facts.proofs.Turns.{Reads, reads}
 
 -- Reading ends at most five bytes on for each field.
 reads-near : {s : List ℕ} {n at start : ℕ} {c : Field} {l : List ℕ} {end : ℕ} {m : List ℕ} → Reads s n at start c l end m → end ≤ at + 5 * n
 reads-near Reads.none = omega arith
 reads-near (Reads.over e) = omega arith
-reads-near {s} {at} (Reads.on v next e q r a more) = omega (arith, reads-near more, number-ends s at v next q)
+reads-near {s} {at} {c = c} {l = l} (Reads.on v next e q r a more) = omega (arith, reads-near more, field-near (editionIn l) c s at v next q)
 
 module _ (s : List ℕ) (k : ℕ) (cut : k ≤ length s) where
   abbrev Same : ℕ → ℕ → ℕ → Field → List ℕ → Type 0
   Same n at start c l = readFrom n (take k s) at start c l ≡ readFrom n s at start c l
 
   number-same : (n at start : ℕ) (c : Field) (l : List ℕ) → at + 5 ≤ k → atEnd c ≡ false →
-      ((v next : ℕ) → readNumber s at ≡ Value v next → Same n next (itemStart c at start) (nextField c v) (set l (c .place) v)) →
-      (r : Number) → readNumber s at ≡ r → Same (suc n) at start c l
+      ((v next : ℕ) → readField (editionIn l) s at c ≡ Value v next → Same n next (itemStart c at start) (nextField c v) (set l (c .place) v)) →
+      (r : Number) → readField (editionIn l) s at c ≡ r → Same (suc n) at start c l
   unfolding readFrom
-  number-same n at start c l room e more (Value v next) q = simp (e, number-prefix s k at room cut, q, more v next q)
-  number-same n at start c l room e more Ended q = absurd (never-ended s at (omega arith) q)
-  number-same n at start c l room e more Misspelt q = simp (e, number-prefix s k at room cut, q)
+  number-same n at start c l room e more (Value v next) q = simp (e, field-prefix (editionIn l) c s k at room cut, q, more v next q)
+  number-same n at start c l room e more Ended q = absurd (field-never-ended (editionIn l) c s at (omega arith) q)
+  number-same n at start c l room e more Misspelt q = simp (e, field-prefix (editionIn l) c s k at room cut, q)
 
   scan-prefix : (n at start : ℕ) (c : Field) (l : List ℕ) → at + 5 * n < k → Same n at start c l
   unfolding readFrom
@@ -44,8 +43,8 @@ module _ (s : List ℕ) (k : ℕ) (cut : k ≤ length s) where
   scan-prefix (suc n) at start c l room =
       by-bool (atEnd c) (λ e. simp e)
       (λ e. number-same n at start c l (omega arith) e
-      (λ v next q. scan-prefix n next (itemStart c at start) (nextField c v) (set l (c .place) v) (omega (arith, number-ends s at v next q)))
-      (readNumber s at) refl)
+      (λ v next q. scan-prefix n next (itemStart c at start) (nextField c v) (set l (c .place) v) (omega (arith, field-near (editionIn l) c s at v next q)))
+      (readField (editionIn l) s at c) refl)
 
   -- Where reading is done before k, bytes are left over in both.
   rest-same : (a : FieldsAnswer) (l : List ℕ) → ((at : ℕ) → a ≡ Done at → at < k) → readRest k a l ≡ readRest (length s) a l

@@ -10,7 +10,7 @@ use Rattle.model.specs.declared.FieldsAnswer.the-variants.{Done}
 use Rattle.model.specs.declared.Problem.{Problem}
 use Rattle.model.specs.Zero.{bytes, cycles}
 use Rattle.model.specs.Table.{bases, base}
-use Rattle.model.specs.Numbers.{table, functionAt, vertexAt, edgeAt, loopAt, numbersOf, problemOf, Sized}
+use Rattle.model.specs.Numbers.{table, functionAt, vertexAt, edgeAt, loopAt, editionOf, numbersOf, problemOf, Sized}
 use Rattle.model.specs.File.{checkFields, inUse, cleared}
 use Rattle.model.specs.Graph.{graphRules, judgeGraph}
 use Rattle.model.specs.Operations.{SameProblem, clearedProblem}
@@ -64,6 +64,7 @@ module _ (l m : List ℕ) (facts : FieldFacts l) (kept : (k : ℕ) → inUse l k
             record {
               size = bytes (function (places.size + places.functionWidth * i) (omega arith) (omega arith) t);
               load = cycles (function (places.load + places.functionWidth * i) (omega arith) (omega arith) t);
+              check = cycles (function (places.check + places.functionWidth * i) (omega arith) (omega arith) t);
             });
         «vertex_count» = vertices;
         vertices =
@@ -95,5 +96,5 @@ module _ (l m : List ℕ) (facts : FieldFacts l) (kept : (k : ℕ) → inUse l k
 pub same-checked : (p : Problem) → Sized p → (need : ℕ) → checkFields (numbersOf p) ≡ Done need → SameProblem p (clearedProblem p)
 same-checked p sized need ok =
     let l : List ℕ = numbersOf p in
-    subst (λ (q : Problem). SameProblem q (problemOf (cleared l))) (problem-of-numbers p sized)
+    subst (λ (q : Problem). SameProblem q (problemOf (cleared l))) (problem-of-numbers (editionOf p) p sized)
     (same-numbers l (cleared l) (field-facts l need ok) (λ k u h. sym (cleared-used l k u h)))

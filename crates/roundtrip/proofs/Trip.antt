@@ -1,6 +1,6 @@
--- Read and Write undo each other, but for padding: the files that are read as a problem are its files, padded or not, and what is written is the shortest of
--- them. A lawful problem, written, is read as itself.
-use Prim.Native.Nat.{ℕ, _+_, _≤_}
+-- Read and Write undo each other, but for padding and edition: the files that are read as a problem are its files, padded or not, and what is written is the
+-- shortest of them. A lawful problem, written, is read as itself.
+use Prim.Native.Nat.{ℕ, _+_, _≤_, _<_}
 use mathlib.Core.Path.{_≡_, sym, ap, subst, _∙_}
 use mathlib.Core.List.{List, _++_}
 use native.Mathlib.Omega.{arith}
@@ -16,18 +16,26 @@ use Rattle.model.specs.declared.ReadAnswer.the-variants as read
 use Rattle.model.specs.declared.WriteAnswer.{WriteAnswer}
 use Rattle.model.specs.declared.WriteAnswer.the-variants.{Written}
 use Rattle.model.specs.Spelling.{Bytes}
-use Rattle.model.specs.Numbers.{numbersOf, problemOf, Sized}
-use Rattle.model.specs.File.{numberCount, firstField, Scan, scanned, readFields, checkFields, fileBytes, cleared}
+use Rattle.model.specs.Limits.{firstEdition, secondEdition}
+use Rattle.model.specs.Numbers.{editionOf, numbersIn, numbersOf, problemOf, Sized}
+use Rattle.model.specs.File.{numberCount, firstField, editionIn, Scan, scanned, readFields, checkFields, cleared}
 use Rattle.model.specs.Graph.{judgeGraph}
 use Rattle.model.specs.Operations.{readVerdict, readRest, readFile, SameProblem, clearedProblem, checkProblem, writeChecked, writeProblem, afterWrite, writtenBuffer}
+use Rattle.model.proofs.Cases.{by-same}
+use Rattle.numbers.proofs.At.{functions-are}
 use Rattle.numbers.proofs.Inverse.{numbers-of-problem, sized-problem}
+use Rattle.numbers.proofs.Written.{edition-limits}
 use Rattle.facts.proofs.Good.{GoodNumbers}
 use Rattle.facts.proofs.Judging.{checked-good}
-use Rattle.facts.proofs.Facts.{good-facts}
+use Rattle.facts.specs.Fields.{FieldFacts}
+use Rattle.facts.proofs.Facts.{good-facts, field-facts}
+use Rattle.facts.proofs.Done.{facts-done}
 use Rattle.facts.proofs.Cleared.{fill-cleared}
 use Rattle.roundtrip.specs.Files.{Padded, FileOf, shortFile, wideFile}
 use Rattle.roundtrip.proofs.Ends.{judged-ends}
-use Rattle.roundtrip.proofs.Files.{unpadded, wide, no-shorter, padded-bytes}
+use Rattle.roundtrip.proofs.Editions.{own-edition, same-behind, in-edition, edition-enough, settled, cleared-alike}
+use Rattle.roundtrip.proofs.Files.{unpadded, wide, NoShorter, no-shorter, padded-bytes}
+use Rattle.roundtrip.proofs.Saved.{saved-file}
 use Rattle.roundtrip.proofs.Reading.{FileRead, fields-file}
 use Rattle.roundtrip.proofs.Writing.{fields-back}
 use Rattle.roundtrip.proofs.Same.{same-judged, same-checked}
@@ -56,7 +64,7 @@ module _ (p : Problem) (need : ℕ) (checked : checkProblem p ≡ Done need) whe
   file-length = judged-ends (numbersOf p) need numberCount 0 0 firstField (lawful .fields) ∙ omega arith
 
 short-is : (p : Problem) → FileOf p (shortFile p)
-short-is p = unpadded (numbersOf p) numberCount firstField
+short-is p = record { edition = editionOf p; enough = omega arith; known = edition-limits p .1; padded = unpadded (numbersOf p) numberCount firstField }
 
 module _ (p : Problem) (sized : Sized p) (need : ℕ) (checked : checkProblem p ≡ Done need) where
   -- Clearing its spare places leaves a lawful problem the same.
@@ -66,14 +74,44 @@ module _ (p : Problem) (sized : Sized p) (need : ℕ) (checked : checkProblem p 
   graph-cleared : judgeGraph (clearedProblem p) ≡ Accepted
   graph-cleared = sym (same-judged same-cleared) ∙ lawful p need checked .graph
 
-  -- Every file of a lawful problem is read as the problem, with every spare place zero.
-  pub padded-read : (s : List ℕ) → FileOf p s → readFile s ≡ read.Accepted (clearedProblem p)
-  unfolding readFile
-  padded-read s file =
-      let good : GoodNumbers (numbersOf p) = checked-good (numbersOf p) need (lawful p need checked .fields) in
-      ap (λ (x : Scan). readRest (length s) (x .answer) (x .numbers)) (fields-back (numbersOf p) s good file)
-      ∙ simp (le-ltb (length s) (length s) (omega arith))
-      (ap (λ (v : Verdict). readVerdict v (clearedProblem p)) graph-cleared)
+  own-facts : FieldFacts (numbersOf p)
+  own-facts = field-facts (numbersOf p) need (lawful p need checked .fields)
+
+  module _ (s : List ℕ) (file : FileOf p s) where
+    -- The numbers are good in each edition that can say the problem.
+    good-numbers : GoodNumbers (numbersIn (file .edition) p)
+    good-numbers =
+        let done = facts-done (numbersIn (file .edition) p) (in-edition p sized (editionOf p) (file .edition) (file .enough) (file .known) own-facts) in
+        checked-good (numbersIn (file .edition) p) (done .0) (done .1)
+
+    -- Every file of a lawful problem is read as the problem, with every spare place zero.
+    pub padded-read : readFile s ≡ read.Accepted (clearedProblem p)
+    unfolding readFile
+    padded-read =
+        ap (λ (x : Scan). readRest (length s) (x .answer) (x .numbers)) (fields-back (numbersIn (file .edition) p) s good-numbers (file .padded))
+        ∙ simp (le-ltb (length s) (length s) (omega arith))
+        (ap (λ (q : Problem). readVerdict (judgeGraph q) q) (cleared-alike p (file .edition) (editionOf p))
+        ∙ ap (λ (v : Verdict). readVerdict v (clearedProblem p)) graph-cleared)
+
+    -- In an edition above the one that is written every function costs a byte.
+    pub edition-saved : editionOf p < file .edition → length (shortFile p) + p .«function_count» ≤ length s
+    edition-saved above =
+        let limits = edition-limits p in
+        let one : editionIn (numbersOf p) ≡ firstEdition = own-edition (editionOf p) p ∙ omega (arith, file .known) in
+        let two : editionIn (numbersIn (file .edition) p) ≡ secondEdition = own-edition (file .edition) p ∙ omega (arith, file .known) in
+        let saved = saved-file (numbersOf p) (numbersIn (file .edition) p) one two (same-behind p (editionOf p) (file .edition)) numberCount s (omega arith) good-numbers (file .padded) in
+        omega (arith, functions-are (file .edition) p sized)
+
+    -- The file that is written is the shortest, and no other is as short.
+    pub shortest : NoShorter (shortFile p) s
+    shortest =
+        by-same (file .edition) (editionOf p)
+        (λ same. no-shorter (subst (λ (edition : ℕ). Padded (numbersIn edition p) numberCount firstField s) same (file .padded)))
+        (λ other.
+        let saved = edition-saved (omega (arith, file .enough)) in
+        let some = own-facts .some-function in
+        let functions = functions-are (editionOf p) p sized in
+        record { long = omega arith; same = λ h. absurd (omega arith) })
 
   -- The shortest, which is written.
   pub write-then-read : readFile (shortFile p) ≡ read.Accepted (clearedProblem p)
@@ -81,7 +119,7 @@ module _ (p : Problem) (sized : Sized p) (need : ℕ) (checked : checkProblem p 
 
   -- The linker's.
   pub wide-read : readFile (wideFile p) ≡ read.Accepted (clearedProblem p)
-  wide-read = padded-read (wideFile p) (wide (numbersOf p) numberCount firstField)
+  wide-read = padded-read (wideFile p) (record { edition = editionOf p; enough = omega arith; known = edition-limits p .1; padded = wide (numbersOf p) numberCount firstField })
 
 -- Write put n bytes into buf: they are the file of p.
 pub record WrittenFile (p : Problem) (buf : List ℕ) (n : ℕ) : Type 0 where
@@ -120,20 +158,31 @@ pub record ReadAs (s : List ℕ) (p : Problem) : Type 0 where
 
 -- The numbers l that the whole of s has.
 module _ (s l : List ℕ) (file : FileRead numberCount (replicate numberCount 0) s l) where
-  own-numbers : numbersOf (problemOf l) ≡ l
-  own-numbers = numbers-of-problem l (file .into .size) (good-facts l (file .into .good) .edition)
+  facts : FieldFacts l
+  facts = good-facts l (file .into .good)
+
+  own-numbers : numbersIn (editionIn l) (problemOf l) ≡ l
+  own-numbers = numbers-of-problem l (file .into .size)
 
   fields-checked : checkFields (numbersOf (problemOf l)) ≡ Done (length (shortFile (problemOf l)))
-  fields-checked = subst (λ (m : List ℕ). checkFields m ≡ Done (length (fileBytes m))) (sym own-numbers) (file .checked)
+  fields-checked =
+      let done = settled l (file .into .size) facts in
+      done .1 ∙ ap Done (judged-ends (numbersOf (problemOf l)) (done .0) numberCount 0 0 firstField (done .1) ∙ omega arith)
 
   read-as : judgeGraph (problemOf l) ≡ Accepted → ReadAs s (problemOf l)
   read-as graph =
       record {
         sized = sized-problem l;
-        file = subst (λ (m : List ℕ). Padded m numberCount firstField s) (sym own-numbers) (file .padded);
+        file = record {
+          edition = editionIn l;
+          enough = edition-enough l facts;
+          known = facts .edition-high;
+          padded = subst (λ (m : List ℕ). Padded m numberCount firstField s) (sym own-numbers) (file .padded);
+        };
         checked = is-checked (problemOf l) _ (record { fields = fields-checked; graph = graph });
         spare =
-            ap (λ (m : List ℕ). problemOf (cleared m)) own-numbers
+            cleared-alike (problemOf l) (editionOf (problemOf l)) (editionIn l)
+            ∙ ap (λ (m : List ℕ). problemOf (cleared m)) own-numbers
             ∙ ap problemOf (sym (fill-cleared l (file .into .good)) ∙ sym (file .into .filled));
       }
 
@@ -161,9 +210,13 @@ module _ (s : List ℕ) (byte : Bytes s) (p : Problem) (is-read : readFile s ≡
   pub read-file : FileOf p s
   read-file = accepted .file
 
-  -- Each file of p is read as p: files that differ in padding alone are not told apart.
+  -- Each file of p is read as p: files that differ in padding and edition alone are not told apart.
   pub file-read : (t : List ℕ) → FileOf p t → readFile t ≡ read.Accepted p
   file-read t file = padded-read p (accepted .sized) (length (shortFile p)) (accepted .checked) t file ∙ ap read.Accepted (accepted .spare)
+
+  -- Of the files of p the one that is written is the shortest.
+  shortest-of : (t : List ℕ) → FileOf p t → NoShorter (shortFile p) t
+  shortest-of = shortest p (accepted .sized) (length (shortFile p)) (accepted .checked)
 
   -- Every spare place of an accepted problem is zero.
   pub read-spare : clearedProblem p ≡ p
@@ -171,7 +224,7 @@ module _ (s : List ℕ) (byte : Bytes s) (p : Problem) (is-read : readFile s ≡
 
   -- An accepted problem passes the checks of writing, and needs no more bytes than were read.
   pub read-checked : (checkProblem p ≡ Done (length (shortFile p))) × (length (shortFile p) ≤ length s)
-  read-checked = (accepted .checked, no-shorter read-file .long)
+  read-checked = (accepted .checked, shortest-of s read-file .long)
 
   -- An accepted file, written back into a buffer with room for the shortest file of its problem.
   pub read-then-write : (buf : List ℕ) → length (shortFile p) ≤ length buf → Rewritten p buf
@@ -182,8 +235,8 @@ module _ (s : List ℕ) (byte : Bytes s) (p : Problem) (is-read : readFile s ≡
 
   -- A file that is no longer than the one that is written is that one.
   pub shortest-file : length s ≤ length (shortFile p) → s ≡ shortFile p
-  shortest-file h = no-shorter read-file .same h
+  shortest-file h = shortest-of s read-file .same h
 
   -- So a file than which no other of its problem is shorter keeps its bytes.
   pub shortest-kept : ((t : List ℕ) → Bytes t → readFile t ≡ read.Accepted p → length s ≤ length t) → s ≡ shortFile p
-  shortest-kept least = shortest-file (least (shortFile p) (padded-bytes (short-is p)) (file-read (shortFile p) (short-is p)))
+  shortest-kept least = shortest-file (least (shortFile p) (padded-bytes (short-is p .padded)) (file-read (shortFile p) (short-is p)))

@@ -2,15 +2,18 @@
 use Prim.Native.Nat.{ℕ}
 use mathlib.Core.Path.{_≡_, refl, ap, _∙_}
 use mathlib.Core.List.{List, []}
-use lib.ListN.{length, getD}
+use mathlib.Core.Bool.{cond}
+use lib.ListN.{length}
 use lib.Seq.{sets}
 use Rattle.model.specs.declared.FieldsAnswer.{FieldsAnswer}
 use Rattle.model.specs.declared.FieldsAnswer.the-variants.{Done, Refused}
+use Rattle.model.specs.declared.Function.{Function}
 use Rattle.model.specs.declared.Problem.{Problem}
 use Rattle.model.specs.declared.WriteAnswer.{WriteAnswer}
 use Rattle.model.specs.declared.WriteAnswer.the-variants as write
-use Rattle.model.specs.Numbers.{numbersOf, problemOf, Sized}
-use Rattle.model.specs.File.{checkFields, fileBytes}
+use Rattle.model.specs.Limits.{firstEdition, secondEdition}
+use Rattle.model.specs.Numbers.{someCheck, editionOf, numbersIn, numbersOf, problemOf, Sized}
+use Rattle.model.specs.File.{editionIn, checkFields, fileBytes}
 use Rattle.model.specs.Layouts.{judgeLayout}
 use Rattle.model.specs.Operations.{SameProblem, afterFields, checkProblem, writeChecked, writeProblem, afterWrite, writtenBuffer}
 use Rattle.model.specs.Verdicts.{asVerdict, judgeProblem, judgeInterference, judgeBound, judgeRun}
@@ -21,7 +24,6 @@ use Rattle.roundtrip.proofs.Answers.{good-problem}
 use Rattle.spare.proofs.Numbers.{checks-agree, files-agree}
 use Rattle.spare.proofs.Views.{same-words, same-need}
 use Rattle.spare.proofs.Walks.{same-walk}
-use Rattle.model.specs.Places as places
 
 pub same-layout : {p q : Problem} → SameProblem p q → (layout : List ℕ) → judgeLayout p layout ≡ judgeLayout q layout
 unfolding judgeLayout
@@ -29,14 +31,15 @@ same-layout same layout = rw (same-need same layout, same .«function_count», s
 
 module _ (p q : Problem) (sized : Sized p) (sized′ : Sized q) (same : SameProblem p q) where
   numbered : SameProblem (problemOf (numbersOf p)) (problemOf (numbersOf q))
-  numbered = rw (problem-of-numbers p sized, problem-of-numbers q sized′) same
+  numbered = rw (problem-of-numbers (editionOf p) p sized, problem-of-numbers (editionOf q) q sized′) same
 
-  one : getD (numbersOf p) places.edition 0 ≡ getD (numbersOf q) places.edition 0
-  unfolding numbersOf
-  one = refl
+  -- Both are written in one edition.
+  one : editionIn (numbersOf p) ≡ editionIn (numbersOf q)
+  unfolding numbersIn editionOf
+  one = ap (λ (fs : List Function). cond (someCheck fs) secondEdition firstEdition) (same .functions)
 
   same-fields : checkFields (numbersOf p) ≡ checkFields (numbersOf q)
-  same-fields = checks-agree (numbersOf p) (numbersOf q) (numbers-length q sized′) one numbered
+  same-fields = checks-agree (numbersOf p) (numbersOf q) (numbers-length (editionOf q) q sized′) one numbered
 
   -- The problem's own checks, with which every operation begins.
   pub same-checks : checkProblem p ≡ checkProblem q
@@ -53,7 +56,7 @@ module _ (p q : Problem) (sized : Sized p) (sized′ : Sized q) (same : SameProb
 
   pub same-file : (need : ℕ) → checkProblem p ≡ Done need → fileBytes (numbersOf p) ≡ fileBytes (numbersOf q)
   same-file need ok =
-      files-agree (numbersOf p) (numbersOf q) (numbers-length q sized′) one numbered need (good-problem p need ok .fields)
+      files-agree (numbersOf p) (numbersOf q) (numbers-length (editionOf q) q sized′) one numbered need (good-problem p need ok .fields)
 
   pub same-buffer : (buf : List ℕ) → writtenBuffer p buf ≡ writtenBuffer q buf
   same-buffer buf =

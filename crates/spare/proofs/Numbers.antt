@@ -1,6 +1,6 @@
 -- The numbers of one problem are judged alike and have the same file, lawful or not, whatever stands in the spare places: no field of a file is one of these.
 use Prim.Native.Nat.{ℕ, zero, suc, _+_, _*_, _≤_, _<_}
-use mathlib.Core.Path.{_≡_, refl, sym, ap, _∙_}
+use mathlib.Core.Path.{_≡_, refl, sym, ap, ap₂, _∙_}
 use mathlib.Core.List.{List, _++_}
 use mathlib.Core.Bool.{true}
 use native.Mathlib.Omega.{arith}
@@ -13,10 +13,9 @@ use Rattle.model.specs.declared.Function.{Function}
 use Rattle.model.specs.declared.Vertex.{Vertex}
 use Rattle.model.specs.declared.Edge.{Edge}
 use Rattle.model.specs.declared.Loop.{Loop}
-use Rattle.model.specs.Spelling.{numberSize, numberBytes}
 use Rattle.model.specs.Table.{bases, kinds, jumps, base}
 use Rattle.model.specs.Numbers.{table, functionAt, vertexAt, edgeAt, loopAt, problemOf}
-use Rattle.model.specs.File.{firstField, numberCount, atEnd, nextField, inRange, ascends, itemStart, checkFrom, checkFields, bytesFrom, fileBytes}
+use Rattle.model.specs.File.{firstField, numberCount, atEnd, nextField, editionIn, fieldSize, fieldBytes, inRange, ascends, itemStart, checkFrom, checkFields, bytesFrom, fileBytes}
 use Rattle.model.specs.Operations.{SameProblem}
 use Rattle.model.proofs.Cases.{by-bool}
 use Rattle.model.proofs.Lists.{getD-table}
@@ -55,7 +54,8 @@ module _ (l : List ℕ) where
   counted-next Valid.scratchpad h t = omega arith
   counted-next Valid.functions h t = after-count InLists _ _ (λ e. omega arith) (λ k. omega arith)
   counted-next (Valid.size i left f) h t = omega (arith, t .functions (omega arith) (omega arith))
-  counted-next (Valid.load i left f) h t = after-item InLists _ (λ e. omega arith) (λ k. omega (arith, t .functions (omega arith) (omega arith)))
+  counted-next (Valid.load i left f) h t = omega (arith, t .functions (omega arith) (omega arith))
+  counted-next (Valid.check i left f) h t = after-item InLists _ (λ e. omega arith) (λ k. omega (arith, t .functions (omega arith) (omega arith)))
   counted-next Valid.vertices h t = after-count InLists _ _ (λ e. omega arith) (λ k. omega arith)
   counted-next (Valid.function i left f) h t = omega (arith, t .vertices (omega arith) (omega arith))
   counted-next (Valid.cost i left f) h t = after-item InLists _ (λ e. omega arith) (λ k. omega (arith, t .vertices (omega arith) (omega arith)))
@@ -69,7 +69,7 @@ module _ (l : List ℕ) where
   counted-next Valid.end h t = absurd (omega arith)
 
 -- Numbers l and m of one problem.
-module _ (l m : List ℕ) (long : length m ≡ places.end) (one : getD l places.edition 0 ≡ getD m places.edition 0) (same : SameProblem (problemOf l) (problemOf m)) where
+module _ (l m : List ℕ) (long : length m ≡ places.end) (one : editionIn l ≡ editionIn m) (same : SameProblem (problemOf l) (problemOf m)) where
   module _ (i : ℕ) where
     function : i < places.mostFunctions → i < getD l places.functionCount 0 → functionAt l i ≡ functionAt m i
     unfolding problemOf
@@ -95,6 +95,7 @@ module _ (l m : List ℕ) (long : length m ≡ places.end) (one : getD l places.
   here Valid.functions h t = same .«function_count»
   here (Valid.size i left f) h t = ap (λ (x : Function). x .size .0) (function i (omega arith) (omega (arith, t .functions (omega arith) (omega arith))))
   here (Valid.load i left f) h t = ap (λ (x : Function). x .load .0) (function i (omega arith) (omega (arith, t .functions (omega arith) (omega arith))))
+  here (Valid.check i left f) h t = ap (λ (x : Function). x .check .0) (function i (omega arith) (omega (arith, t .functions (omega arith) (omega arith))))
   here Valid.vertices h t = same .«vertex_count»
   here (Valid.function i left f) h t = ap (λ (x : Vertex). x .function) (vertex i (omega arith) (omega (arith, t .vertices (omega arith) (omega arith))))
   here (Valid.cost i left f) h t = ap (λ (x : Vertex). x .cost .0) (vertex i (omega arith) (omega (arith, t .vertices (omega arith) (omega arith))))
@@ -142,8 +143,8 @@ module _ (l m : List ℕ) (long : length m ≡ places.end) (one : getD l places.
       let orders : ascends l c ≡ ascends m c = ascends-agrees l m (b .valid) (b .alike) is in
       by-bool (inRange l c v)
       (λ r.
-      let more = judged-alike n (at + numberSize v) (itemStart c at start) (next l c) (following b h r) in
-      rw (e, ← is, ← ranges, r, ← orders, more))
+      let more = judged-alike n (at + fieldSize (editionIn l) c v) (itemStart c at start) (next l c) (following b h r) in
+      rw (e, ← is, ← ranges, r, ← orders, ← one, more))
       (λ r. rw (e, ← is, ← ranges, r)))
 
   pub checks-agree : checkFields l ≡ checkFields m
@@ -157,7 +158,7 @@ module _ (l m : List ℕ) (long : length m ≡ places.end) (one : getD l places.
       let h : c .row < rows.end = leb-false rows.end (c .row) e in
       let v : ℕ = getD l (c .place) 0 in
       bytes-on n c l v e refl
-      ∙ ap (λ (s : List ℕ). numberBytes v ++ s) (written-alike more (following b h (p .in-range)))
+      ∙ ap₂ (λ (edition : ℕ) (s : List ℕ). fieldBytes edition c v ++ s) one (written-alike more (following b h (p .in-range)))
       ∙ sym (bytes-on n c m v e (sym (number b h)))
 
   -- Where the checks pass.

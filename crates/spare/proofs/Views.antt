@@ -2,18 +2,18 @@
 use Prim.Native.Nat.{ℕ, _+_, _-_, _*_}
 use mathlib.Core.Path.{_≡_, sym}
 use mathlib.Core.List.{List, List·Memᴰ}
-use mathlib.Core.Bool.{Bool, cond, _&&_}
-use lib.ListN.{getD}
+use mathlib.Core.Bool.{Bool, cond, not, _&&_, _||_}
+use lib.ListN.{length, getD}
 use lib.Dec.{eqb}
 use Rattle.model.specs.declared.Problem.{Problem}
 use Rattle.model.specs.Zero.{zeroFunction, zeroVertex}
 use Rattle.model.specs.Search.{existsBelow}
-use Rattle.model.specs.Graph.{holds}
-use Rattle.model.specs.Costs.{sizeOf, loadCost, functionOf, ownCost, total, largest}
+use Rattle.model.specs.Graph.{edge, holds}
+use Rattle.model.specs.Costs.{sizeOf, loadCost, checkCost, functionOf, ownCost, total, largest}
 use Rattle.model.specs.Limits.{mostRegions}
 use Rattle.model.specs.Layouts.{regionOf, largestIn, needOf}
 use Rattle.model.specs.Walks.{EdgeOf, lastVertex, weights}
-use Rattle.model.specs.Charges.{outside, outermost, visitCharge, firstLoads, secondCharge, holdsEarly, entryCharge, secondTotal}
+use Rattle.model.specs.Charges.{outside, outermost, entered, visitCharge, firstLoads, secondCharge, holdsEarly, entryCharge, secondTotal}
 use Rattle.model.specs.Operations.{SameProblem}
 use Rattle.model.specs.Verdicts.{wordCount}
 
@@ -38,6 +38,9 @@ module _ {p q : Problem} (same : SameProblem p q) where
   pub same-load : loadCost p ≡ loadCost q
   same-load = λ i f. getD (same .functions i) f zeroFunction .load .0
 
+  pub same-check : checkCost p ≡ checkCost q
+  same-check = λ i f. getD (same .functions i) f zeroFunction .check .0
+
   pub same-function : functionOf p ≡ functionOf q
   same-function = λ i v. getD (same .vertices i) v zeroVertex .function
 
@@ -57,9 +60,19 @@ module _ {p q : Problem} (same : SameProblem p q) where
   unfolding needOf largestIn
   same-need layout = λ i. total mostRegions (λ r. largest (same .«function_count» i) (λ f. cond (eqb (regionOf layout f) r) (same-size i f) 0))
 
+  same-entered : entered p ≡ entered q
+  unfolding entered
+  same-entered = λ i v.
+      eqb v 0
+      || existsBelow (length (same .edges i)) (λ k.
+      eqb (edge (same .edges i) k .to) v && not (eqb (same-function i (edge (same .edges i) k .from)) (same-function i v)))
+
   pub same-charge : (contested : ℕ → Bool) → visitCharge p contested ≡ visitCharge q contested
   unfolding visitCharge
-  same-charge contested = λ i v. same-cost i v + cond (contested v) (same-load i (same-function i v)) 0
+  same-charge contested = λ i v.
+      same-cost i v
+      + cond (same-entered i v) (same-check i (same-function i v)) 0
+      + cond (contested v) (same-load i (same-function i v)) 0
 
   pub same-first : (cold : ℕ → Bool) → firstLoads p cold ≡ firstLoads q cold
   unfolding firstLoads
