@@ -11,9 +11,9 @@ use Rattle.model.specs.Inlined.{copied}
 use Rattle.drawings.specs.Facts.{DrawingFacts}
 use Rattle.rows.specs.Fit.{RowsFit}
 
--- The edition, which is 1, the scratchpad size, and the functions.
+-- The scratchpad size, and the functions.
 abbrev pub headNumbers : List ℕ → List ℕ
-headNumbers d = 1 ∷ drawnScratchpad d ∷ drawnFunctions d ∷ flatMap functionNumbers (table (drawnFunctions d) (drawnFunction d))
+headNumbers d = drawnScratchpad d ∷ drawnFunctions d ∷ flatMap functionNumbers (table (drawnFunctions d) (drawnFunction d))
 
 -- The number of rows, and the rows as vertices.
 abbrev pub rowNumbers : List ℕ → List Row → List ℕ

@@ -24,18 +24,19 @@ fn put_functions(d: &Drawing, count: usize, numbers: &mut Numbers)
     while i < count {
         let size = drawings::drawn_at(d, i, drawn::SIZE);
         let load = drawings::drawn_at(d, i, drawn::LOAD);
+        let check = drawings::drawn_at(d, i, drawn::CHECK);
         numbers[places::SIZE + places::FUNCTION_WIDTH * i] = size as u64;
         numbers[places::LOAD + places::FUNCTION_WIDTH * i] = load as u64;
+        numbers[places::CHECK + places::FUNCTION_WIDTH * i] = check as u64;
         i += 1;
     }
 }
 
-// The edition, the scratchpad size, and the functions as drawn: also those that no row is of.
+// The scratchpad size, and the functions as drawn: also those that no row is of.
 pub fn put_head(d: &Drawing, numbers: &mut Numbers)
     requires { ⌜ DrawingFacts (now d) ⌝ }
-    ensures { λ _. ⌜ now (numbers .exit) ≡ sets (now (numbers .entry)) spot.edition (headNumbers (now (d .entry))) ⌝ }
+    ensures { λ _. ⌜ now (numbers .exit) ≡ sets (now (numbers .entry)) spot.scratchpad (headNumbers (now (d .entry))) ⌝ }
 {
-    numbers[places::EDITION] = 1;
     numbers[places::SCRATCHPAD] = drawings::scratchpad(d) as u64;
     let count = drawings::function_count(d);
     numbers[places::FUNCTION_COUNT] = count as u64;

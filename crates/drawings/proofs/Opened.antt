@@ -166,10 +166,12 @@ module _ (d : List ℕ) (graphs : judgeGraphs d ≡ Accepted) (f : ℕ) (below :
       let first = facts .some-function in
       let size = ap (λ (x : Function). x .size .0) (function-is d f 0 (omega arith)) in
       let load = ap (λ (x : Function). x .load .0) (function-is d f 0 (omega arith)) in
+      let check = ap (λ (x : Function). x .check .0) (function-is d f 0 (omega arith)) in
       record {
         size-low = omega (arith, facts .size 0 first .0, size);
         size-high = omega (arith, facts .size 0 first .1, size);
         load = omega (arith, facts .load 0 first, load);
+        check = omega (arith, facts .check 0 first, check);
         some-vertex = omega (arith, facts .some-vertex, vertices-are d f);
         vertices = few-vertices;
         edges = few-edges;

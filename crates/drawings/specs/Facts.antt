@@ -5,7 +5,7 @@ use mathlib.Core.List.{List}
 use mathlib.Core.Bool.{true}
 use mathlib.Core.Option.{some, none}
 use Rattle.model.specs.Places as places
-use Rattle.model.specs.Limits.{mostBytes, mostCycles, mostVisits}
+use Rattle.model.specs.Limits.{mostBytes, mostCycles, mostCheck, mostVisits}
 use Rattle.model.specs.File.{edgeBefore}
 use Rattle.model.specs.Drawings.{drawnScratchpad, drawnFunctions, drawnCount, drawnEdges, drawnLoops, calledBy, drawnFunction, drawnVertex, drawnEdge, drawnLoop}
 
@@ -14,6 +14,7 @@ pub record DrawnFacts (d : List ℕ) (f : ℕ) : Type 0 where
   pub size-low : 1 ≤ drawnFunction d f .size .0
   pub size-high : drawnFunction d f .size .0 ≤ mostBytes
   pub load : drawnFunction d f .load .0 ≤ mostCycles
+  pub check : drawnFunction d f .check .0 ≤ mostCheck
   pub some-vertex : 1 ≤ drawnCount d f
   pub vertices : drawnCount d f ≤ places.mostVertices
   pub edges : drawnEdges d f ≤ places.mostEdges

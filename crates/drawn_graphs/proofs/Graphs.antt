@@ -8,7 +8,7 @@ use lib.Seq.{sets, ext-getD, getD-take}
 use Rattle.model.specs.declared.Verdict.{Verdict}
 use Rattle.model.specs.Zero.{zeroFunction, zeroVertex, zeroEdge, zeroLoop}
 use Rattle.model.specs.Places as places
-use Rattle.model.specs.Numbers.{table, inPlaces, functionNumbers, vertexNumbers, edgeNumbers, loopNumbers, numbersOf, Sized}
+use Rattle.model.specs.Numbers.{table, inPlaces, functionNumbers, vertexNumbers, edgeNumbers, loopNumbers, numbersIn, editionOf, problemOf, Sized}
 use Rattle.model.specs.Verdicts.{judgeProblem}
 use Rattle.model.specs.Operations.{SameProblem}
 use Rattle.model.specs.Drawings.{drawnScratchpad, drawnFunctions, drawnCount, drawnEdges, drawnLoops, drawnFunction, drawnVertex, drawnEdge, drawnLoop, graphOf}
@@ -16,6 +16,7 @@ use Rattle.model.proofs.Lists.{length-table, getD-table}
 use Rattle.numbers.specs.InParts.{inParts}
 use Rattle.numbers.specs.Numbered.{Numbered, Stored}
 use Rattle.numbers.proofs.InParts.{stored-parts}
+use Rattle.numbers.proofs.Assembled.{no-edition, edition-put}
 use Rattle.spare.proofs.Checks.{same-problem}
 use Rattle.checks.specs.Steps.{judgeNumbers}
 use Rattle.checks.proofs.Opened.{judges-problem}
@@ -76,7 +77,7 @@ module _ (d : List ℕ) (f : ℕ) where
         loops = length-table places.mostLoops _;
       }
 
-  module _ {scratchpad functions vertices edges loops used₁ used₂ used₃ used₄ : ℕ} {l₀ l₁ l₂ l₃ l₄ : List ℕ} where
+  module _ {scratchpad functions vertices edges loops used₁ used₂ used₃ used₄ : ℕ} {l₀ l₁ l₂ l₃ l₄ l₅ : List ℕ} where
     pub graph-filled :
         l₀ ≡ replicate places.end 0 →
         scratchpad ≡ drawnScratchpad d →
@@ -84,18 +85,18 @@ module _ (d : List ℕ) (f : ℕ) where
         vertices ≡ drawnCount d f → used₂ ≡ min vertices places.mostVertices →
         edges ≡ drawnEdges d f → used₃ ≡ min edges places.mostEdges →
         loops ≡ drawnLoops d f → used₄ ≡ min loops places.mostLoops →
-        Stored functionNumbers used₁ places.size (table used₁ (λ i. drawnFunction d f)) (set (set (set l₀ places.edition 1) places.scratchpad scratchpad) places.functionCount functions) l₁ →
+        Stored functionNumbers used₁ places.size (table used₁ (λ i. drawnFunction d f)) (set (set l₀ places.scratchpad scratchpad) places.functionCount functions) l₁ →
         Stored vertexNumbers used₂ places.function (table used₂ (drawnVertex d f)) (set l₁ places.vertexCount vertices) l₂ →
         Stored edgeNumbers used₃ places.from (table used₃ (drawnEdge d f)) (set l₂ places.edgeCount edges) l₃ →
         Stored loopNumbers used₄ places.header (table used₄ (drawnLoop d f)) (set l₃ places.loopCount loops) l₄ →
-        Numbered (usedGraph d f) l₄
+        l₅ ≡ set l₄ places.edition (editionOf (problemOf l₄)) → Numbered (usedGraph d f) l₅
     unfolding usedGraph
-    graph-filled zeros pad functions-are few₁ vertices-are few₂ edges-are few₃ loops-are few₄ first second third fourth =
+    graph-filled zeros pad functions-are few₁ vertices-are few₂ edges-are few₃ loops-are few₄ first second third fourth put =
         let fs = table used₁ (λ i. drawnFunction d f) in
         let vs = table used₂ (drawnVertex d f) in
         let es = table used₃ (drawnEdge d f) in
         let ls = table used₄ (drawnLoop d f) in
-        let is : l₄ ≡ numbersOf (inParts scratchpad functions fs vertices vs edges es loops ls) =
+        let is : l₄ ≡ numbersIn 0 (inParts scratchpad functions fs vertices vs edges es loops ls) =
         fourth .is
         ∙ ap (λ (l : List ℕ). sets (set l places.loopCount loops) places.header (flatMap loopNumbers ls))
         (third .is
@@ -103,20 +104,18 @@ module _ (d : List ℕ) (f : ℕ) where
         (second .is
         ∙ ap (λ (l : List ℕ). sets (set l places.vertexCount vertices) places.function (flatMap vertexNumbers vs))
         (first .is
-        ∙ ap (λ (l : List ℕ). sets (set (set (set l places.edition 1) places.scratchpad scratchpad) places.functionCount functions) places.size (flatMap functionNumbers fs)) zeros)))
-        ∙ stored-parts scratchpad functions fs vertices vs edges es loops ls
+        ∙ ap (λ (l : List ℕ). sets (set (set l places.scratchpad scratchpad) places.functionCount functions) places.size (flatMap functionNumbers fs)) (zeros ∙ no-edition))))
+        ∙ stored-parts 0 scratchpad functions fs vertices vs edges es loops ls
         (omega (arith, length-table used₁ (λ i. drawnFunction d f))) (omega (arith, length-table used₂ (drawnVertex d f)))
         (omega (arith, length-table used₃ (drawnEdge d f))) (omega (arith, length-table used₄ (drawnLoop d f))) in
-        record {
-          is =
-              is
-              ∙ (λ i. numbersOf (inParts (pad i)
-              (functions-are i) (table (of-drawn places.mostFunctions few₁ functions-are i) (λ k. drawnFunction d f))
-              (vertices-are i) (table (of-drawn places.mostVertices few₂ vertices-are i) (drawnVertex d f))
-              (edges-are i) (table (of-drawn places.mostEdges few₃ edges-are i) (drawnEdge d f))
-              (loops-are i) (table (of-drawn places.mostLoops few₄ loops-are i) (drawnLoop d f))));
-          sized = used-sized;
-        }
+        edition-put (usedGraph d f) used-sized 0 l₄ l₅
+        (is
+        ∙ (λ i. numbersIn 0 (inParts (pad i)
+        (functions-are i) (table (of-drawn places.mostFunctions few₁ functions-are i) (λ k. drawnFunction d f))
+        (vertices-are i) (table (of-drawn places.mostVertices few₂ vertices-are i) (drawnVertex d f))
+        (edges-are i) (table (of-drawn places.mostEdges few₃ edges-are i) (drawnEdge d f))
+        (loops-are i) (table (of-drawn places.mostLoops few₄ loops-are i) (drawnLoop d f)))))
+        put
 
   -- So the checks say of the one what they say of the other.
   pub used-judged : (l : List ℕ) → Numbered (usedGraph d f) l → (v : Verdict) → v ≡ judgeNumbers l → v ≡ judgeProblem (graphOf d f)

@@ -39,17 +39,19 @@ fn at_most(count: usize, most: usize) -> usize
     most
 }
 
-// The used items of each list of f's graph stored at its places, item by item. Every function has f's size and load cost.
+// The used items of each list of f's graph stored at its places, item by item. Every function has f's size, load cost and check cost.
 fn put_functions(l: &mut Numbers, d: &Drawing, f: usize, used: usize)
     requires { ⌜ f < spot.mostFunctions ⌝ ∗ ⌜ used ≤ spot.mostFunctions ⌝ }
     ensures { λ r. ⌜ Stored functionNumbers used spot.size (table used (λ i. drawnFunction (now (d .entry)) f)) (now (l .entry)) (now (l .exit)) ⌝ }
 {
     let size = drawings::drawn_at(d, f, drawn::SIZE) as u64;
     let load = drawings::drawn_at(d, f, drawn::LOAD) as u64;
+    let check = drawings::drawn_at(d, f, drawn::CHECK) as u64;
     let mut i: usize = 0;
     while i < used {
         l[places::SIZE + places::FUNCTION_WIDTH * i] = size;
         l[places::LOAD + places::FUNCTION_WIDTH * i] = load;
+        l[places::CHECK + places::FUNCTION_WIDTH * i] = check;
         i += 1;
     }
 }
@@ -103,7 +105,6 @@ fn fill_graph(d: &Drawing, f: usize, l: &mut Numbers)
     requires { ⌜ f < spot.mostFunctions ⌝ ∗ ⌜ now l ≡ replicate spot.end 0 ⌝ }
     ensures { λ _. ⌜ Numbered (usedGraph (now (d .entry)) f) (now (l .exit)) ⌝ }
 {
-    l[places::EDITION] = 1;
     l[places::SCRATCHPAD] = drawings::scratchpad(d) as u64;
     let functions = drawings::function_count(d);
     l[places::FUNCTION_COUNT] = functions as u64;
@@ -117,6 +118,7 @@ fn fill_graph(d: &Drawing, f: usize, l: &mut Numbers)
     let loops = drawings::loop_count(d, f);
     l[places::LOOP_COUNT] = loops as u64;
     put_loops(l, d, f, at_most(loops, places::MOST_LOOPS));
+    numbers::put_edition(l);
 }
 
 fn within(number: usize, most: usize) -> bool

@@ -29,7 +29,7 @@ writeTold file room = onRead (readFile file) (λ p. writeSays p room) refusalOut
 abbrev pub writeOut : List ℕ → List ℕ → List ℕ
 writeOut file out = onRead (readFile file) (λ p. writtenBuffer p out) (λ f. out)
 
--- **examiner_write_fields**: the fields are a problem's numbers after the edition, which is 1.
+-- **examiner_write_fields**: the fields are a problem's numbers after the edition, which is no part of the problem and stands as 1.
 abbrev pub fieldsProblem : List ℕ → Problem
 fieldsProblem fields = problemOf (1 ∷ fields)
 

@@ -17,15 +17,17 @@ use Rattle.model.specs.declared.Row.{Row}
 use Rattle.model.specs.declared.Problem.{Problem}
 use Rattle.model.specs.declared.InlineAnswer.the-variants as answer
 use Rattle.model.specs.Places as places
-use Rattle.model.specs.Numbers.{numbersOf, problemOf, edgeNumbers, loopNumbers}
+use Rattle.model.specs.Numbers.{editionOf, numbersIn, problemOf, edgeNumbers, loopNumbers}
+use Rattle.model.specs.File.{editionIn}
 use Rattle.model.specs.Graph.{andThen}
 use Rattle.model.specs.Operations.{Checked}
 use Rattle.model.specs.Inlining.{inlinedEdges, inlinedLoops}
 use Rattle.model.specs.Inlined.{judgeHead, judgeGraphs, judgeLast, judgeCalls, judgeCounts, judgeDrawing, inlinedRows, inlinedProblem, inlineVerdict, inlineDrawing}
 use Rattle.model.proofs.Answers.{accepted-both, refused-not-accepted}
 use Rattle.numbers.specs.Numbered.{Numbered}
-use Rattle.numbers.proofs.Inverse.{problem-of-numbers}
-use Rattle.checks.proofs.Opened.{opened, judges-problem}
+use Rattle.numbers.proofs.Assembled.{edition-put}
+use Rattle.roundtrip.proofs.Editions.{own-edition}
+use Rattle.checks.proofs.Opened.{same-problem, opened, judges-problem}
 use Rattle.checks.specs.Steps.{judgeNumbers}
 use Rattle.drawings.specs.Facts.{DrawingFacts}
 use Rattle.drawings.proofs.Opened.{drawing-facts}
@@ -102,19 +104,21 @@ module _ (d : List ℕ) (facts : DrawingFacts d) (rows : List Row) (count : ℕ)
 
       -- All counts fit: the parts stored one after another are the one problem's numbers.
       pub built :
-          loops ≤ places.mostLoops → (l₀ l₁ : List ℕ) → l₀ ≡ replicate places.end 0 → l₁ ≡ sets l₀ places.edition (headNumbers d) →
-          l₂ ≡ sets l₁ places.vertexCount (rowNumbers d (take count rows)) → Built d (set l₄ places.loopCount loops) Accepted
-      built few-loops l₀ l₁ zeros head vertices = record { counts = none-passes d F; numbers = λ e. stored }
+          loops ≤ places.mostLoops → (l₀ l₁ : List ℕ) → l₀ ≡ replicate places.end 0 → l₁ ≡ sets l₀ places.scratchpad (headNumbers d) →
+          l₂ ≡ sets l₁ places.vertexCount (rowNumbers d (take count rows)) → (l₆ : List ℕ) →
+          l₆ ≡ set (set l₄ places.loopCount loops) places.edition (editionOf (problemOf (set l₄ places.loopCount loops))) → Built d l₆ Accepted
+      built few-loops l₀ l₁ zeros head vertices l₆ put =
+          record { counts = none-passes d F; numbers = λ e. edition-put (inlinedProblem d) (sized d) 0 (set l₄ places.loopCount loops) l₆ stored put .is }
         where
           F : Few d
           F = record { rows = few-rows; edges = omega (arith, all-edges .count-is); loops = omega (arith, all-loops .count-is) }
 
-          begun : l₂ ≡ sets (sets (replicate places.end 0) places.edition (headNumbers d)) places.vertexCount (rowNumbers d (inlinedRows d))
+          begun : l₂ ≡ sets (sets (replicate places.end 0) places.scratchpad (headNumbers d)) places.vertexCount (rowNumbers d (inlinedRows d))
           begun =
               vertices
-              ∙ ap₂ (λ (m : List ℕ) (s : List Row). sets m places.vertexCount (rowNumbers d s)) (head ∙ ap (λ (m : List ℕ). sets m places.edition (headNumbers d)) zeros) (made .are)
+              ∙ ap₂ (λ (m : List ℕ) (s : List Row). sets m places.vertexCount (rowNumbers d s)) (head ∙ ap (λ (m : List ℕ). sets m places.scratchpad (headNumbers d)) zeros) (made .are)
 
-          stored : set l₄ places.loopCount loops ≡ numbersOf (inlinedProblem d)
+          stored : set l₄ places.loopCount loops ≡ numbersIn 0 (inlinedProblem d)
           stored =
               behind-count places.mostLoops places.loopCount loopNumbers (set l₃ places.edgeCount edges) l₄ (ls d) loops all-loops (F .loops)
               ∙ ap (λ (m : List ℕ). sets m places.loopCount (length (ls d) ∷ flatMap loopNumbers (ls d)))
@@ -155,6 +159,7 @@ module _ (d l : List ℕ) where
       record {
         answer = ap (λ (w : Verdict). inlineVerdict w (problemOf l)) e ∙ sym (ap (λ (w : Verdict). inlineVerdict w (inlinedProblem d)) (then-refused (judgeHead d) (judgeGraphs d) (judgeLast d) (judgeCalls d) (judgeCounts d) r (sym is ∙ e)));
         checked = λ q. refused-not-accepted (sym e ∙ q);
+        edition = λ q. refused-not-accepted (sym e ∙ q);
       }
 
   -- What is left is 19.
@@ -168,6 +173,9 @@ module _ (d l : List ℕ) where
       numbered : v ≡ Accepted → Numbered (inlinedProblem d) l
       numbered e = record { is = b .numbers e; sized = sized d }
 
+      own : v ≡ Accepted → problemOf l ≡ inlinedProblem d
+      own e = same-problem (inlinedProblem d) l (numbered e)
+
       checked : v ≡ Accepted → Checked l
       checked e =
           let n = numbered e in
@@ -178,14 +186,16 @@ module _ (d l : List ℕ) where
           record {
             answer =
                 ap (λ (w : Verdict). inlineVerdict w (problemOf l)) e
-                ∙ ap (λ p. inlineVerdict Accepted p) (ap problemOf (b .numbers e) ∙ problem-of-numbers (inlinedProblem d) (sized d))
+                ∙ ap (λ p. inlineVerdict Accepted p) (own e)
                 ∙ sym (ap (λ (w : Verdict). inlineVerdict w (inlinedProblem d)) (judged Accepted e));
             checked = checked;
+            edition = λ q. ap editionIn (b .numbers q) ∙ own-edition (editionOf (inlinedProblem d)) (inlinedProblem d) ∙ ap editionOf (sym (own q));
           }
       by (Refused r) e =
           record {
             answer = ap (λ (w : Verdict). inlineVerdict w (problemOf l)) e ∙ sym (ap (λ (w : Verdict). inlineVerdict w (inlinedProblem d)) (judged (Refused r) e));
             checked = λ q. refused-not-accepted (sym e ∙ q);
+            edition = λ q. refused-not-accepted (sym e ∙ q);
           }
 
 -- Inline's answer, made of the numbers.

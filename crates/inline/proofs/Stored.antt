@@ -8,12 +8,13 @@ use lib.Seq.{sets, set-comm}
 use Rattle.model.specs.declared.Edge.{Edge}
 use Rattle.model.specs.declared.Loop.{Loop}
 use Rattle.model.specs.Places as places
-use Rattle.model.specs.Numbers.{table, edgeNumbers, loopNumbers, numbersOf}
+use Rattle.model.specs.Numbers.{table, edgeNumbers, loopNumbers, numbersIn}
 use Rattle.model.specs.Drawings.{drawnScratchpad, drawnFunctions, drawnFunction}
 use Rattle.model.specs.Inlining.{rowAt, inlinedEdges, inlinedLoops}
 use Rattle.model.specs.Inlined.{inlinedRows, copied, inlinedProblem}
 use Rattle.model.proofs.Lists.{length-table}
 use Rattle.numbers.proofs.InParts.{stored-parts}
+use Rattle.numbers.proofs.Assembled.{no-edition}
 use Rattle.copies.specs.Parts.{headNumbers, rowNumbers}
 use Rattle.inlined.proofs.Parts.{Few}
 
@@ -31,12 +32,14 @@ module _ (d : List ℕ) (F : Few d) (room : drawnFunctions d ≤ places.mostFunc
   ls = inlinedLoops d (inlinedRows d)
 
   pub stored-is :
-      sets (sets (sets (sets (replicate places.end 0) places.edition (headNumbers d)) places.vertexCount (rowNumbers d (inlinedRows d)))
+      sets (sets (sets (sets (replicate places.end 0) places.scratchpad (headNumbers d)) places.vertexCount (rowNumbers d (inlinedRows d)))
       places.edgeCount (length es ∷ flatMap edgeNumbers es)) places.loopCount (length ls ∷ flatMap loopNumbers ls)
-      ≡ numbersOf (inlinedProblem d)
+      ≡ numbersIn 0 (inlinedProblem d)
   unfolding inlinedProblem
   stored-is =
       let functions = length-table (drawnFunctions d) (drawnFunction d) in
       let vertices = length-table (length (inlinedRows d)) (λ i. copied d (rowAt (inlinedRows d) i)) in
-      stored-parts (drawnScratchpad d) (drawnFunctions d) (table (drawnFunctions d) (drawnFunction d)) (length (inlinedRows d))
+      ap (λ (l : List ℕ). sets (sets (sets (sets l places.scratchpad (headNumbers d)) places.vertexCount (rowNumbers d (inlinedRows d)))
+      places.edgeCount (length es ∷ flatMap edgeNumbers es)) places.loopCount (length ls ∷ flatMap loopNumbers ls)) no-edition
+      ∙ stored-parts 0 (drawnScratchpad d) (drawnFunctions d) (table (drawnFunctions d) (drawnFunction d)) (length (inlinedRows d))
       (table (length (inlinedRows d)) (λ i. copied d (rowAt (inlinedRows d) i))) (length es) es (length ls) ls (omega arith) (omega (arith, F .rows)) (F .edges) (F .loops)

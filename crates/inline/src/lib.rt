@@ -39,6 +39,7 @@ fn build(d: &Drawing, numbers: &mut Numbers) -> Verdict
         return Verdict::Refused(Refusal::CountPassed(0));
     }
     numbers[places::LOOP_COUNT] = loops as u64;
+    numbers::put_edition(numbers);
     Verdict::Accepted
 }
 

@@ -13,13 +13,15 @@ use Rattle.model.specs.Zero.{zeroFunction, zeroVertex, zeroEdge, zeroLoop}
 use Rattle.model.specs.Places as places
 use Rattle.model.specs.Limits.{mostCycles, mostVisits}
 use Rattle.model.specs.Graph.{edge, loop}
-use Rattle.model.specs.Numbers.{table, numbersOf, functionAt, vertexAt, edgeAt, loopAt}
+use Rattle.model.specs.Numbers.{table, editionOf, numbersOf, functionAt, vertexAt, edgeAt, loopAt}
 use Rattle.model.specs.Drawings.{drawnFunctions, drawnFunction}
 use Rattle.model.specs.Inlining.{rowAt, inlinedEdges, inlinedLoops}
 use Rattle.model.specs.Inlined.{inlinedRows, copied, inlinedProblem}
 use Rattle.model.proofs.Lists.{getD-table, mem-getD}
 use Rattle.facts.specs.Fields.{FieldFacts}
 use Rattle.numbers.proofs.At as at-place
+use Rattle.numbers.proofs.Written.{edition-limits, first-unchecked}
+use Rattle.roundtrip.proofs.Editions.{own-edition, check-number}
 use Rattle.drawings.specs.Facts.{DrawingFacts}
 use Rattle.calls.proofs.States.{State, spot, nobody, Valid, at, Drawn}
 use Rattle.calls.proofs.Number.{fits-known, spotted}
@@ -47,7 +49,7 @@ module _ (d : List ℕ) (F : Few d) where
   function-is : drawnFunctions d ≤ places.mostFunctions → (i : ℕ) → i < drawnFunctions d → functionAt l i ≡ drawnFunction d i
   unfolding inlinedProblem
   function-is few i h =
-      at-place.function-is (inlinedProblem d) (sized d) i (omega arith)
+      at-place.function-is (editionOf (inlinedProblem d)) (inlinedProblem d) (sized d) i (omega arith)
       ∙ getD-table places.mostFunctions (λ k. getD (table (drawnFunctions d) (drawnFunction d)) k zeroFunction) i zeroFunction (omega arith)
       ∙ getD-table (drawnFunctions d) (drawnFunction d) i zeroFunction h
 
@@ -55,45 +57,41 @@ module _ (d : List ℕ) (F : Few d) where
   unfolding inlinedProblem
   vertex-is i h =
       let all = table (length (inlinedRows d)) (λ k. copied d (rowAt (inlinedRows d) k)) in
-      at-place.vertex-is (inlinedProblem d) (sized d) i (omega (arith, F .rows))
+      at-place.vertex-is (editionOf (inlinedProblem d)) (inlinedProblem d) (sized d) i (omega (arith, F .rows))
       ∙ getD-table places.mostVertices (λ k. getD all k zeroVertex) i zeroVertex (omega (arith, F .rows))
       ∙ getD-table (length (inlinedRows d)) (λ k. copied d (rowAt (inlinedRows d) k)) i zeroVertex h
 
   edge-is : (i : ℕ) → i < length (inlinedEdges d (inlinedRows d)) → edgeAt l i ≡ edge (inlinedEdges d (inlinedRows d)) i
   unfolding inlinedProblem
   edge-is i h =
-      at-place.edge-is (inlinedProblem d) (sized d) i (omega (arith, F .edges))
+      at-place.edge-is (editionOf (inlinedProblem d)) (inlinedProblem d) (sized d) i (omega (arith, F .edges))
       ∙ getD-table places.mostEdges (λ k. getD (inlinedEdges d (inlinedRows d)) k zeroEdge) i zeroEdge (omega (arith, F .edges))
 
   loop-is : (i : ℕ) → i < length (inlinedLoops d (inlinedRows d)) → loopAt l i ≡ loop (inlinedLoops d (inlinedRows d)) i
   unfolding inlinedProblem
   loop-is i h =
-      at-place.loop-is (inlinedProblem d) (sized d) i (omega (arith, F .loops))
+      at-place.loop-is (editionOf (inlinedProblem d)) (inlinedProblem d) (sized d) i (omega (arith, F .loops))
       ∙ getD-table places.mostLoops (λ k. getD (inlinedLoops d (inlinedRows d)) k zeroLoop) i zeroLoop (omega (arith, F .loops))
 
   scratchpad-is : getD l places.scratchpad 0 ≡ getD d 0 0
   unfolding inlinedProblem
-  scratchpad-is = at-place.scratchpad-is (inlinedProblem d) (sized d)
+  scratchpad-is = at-place.scratchpad-is (editionOf (inlinedProblem d)) (inlinedProblem d) (sized d)
 
   functions-are : getD l places.functionCount 0 ≡ drawnFunctions d
   unfolding inlinedProblem
-  functions-are = at-place.functions-are (inlinedProblem d) (sized d)
+  functions-are = at-place.functions-are (editionOf (inlinedProblem d)) (inlinedProblem d) (sized d)
 
   vertices-are : getD l places.vertexCount 0 ≡ length (inlinedRows d)
   unfolding inlinedProblem
-  vertices-are = at-place.vertices-are (inlinedProblem d) (sized d)
+  vertices-are = at-place.vertices-are (editionOf (inlinedProblem d)) (inlinedProblem d) (sized d)
 
   edges-are : getD l places.edgeCount 0 ≡ length (inlinedEdges d (inlinedRows d))
   unfolding inlinedProblem
-  edges-are = at-place.edges-are (inlinedProblem d) (sized d)
+  edges-are = at-place.edges-are (editionOf (inlinedProblem d)) (inlinedProblem d) (sized d)
 
   loops-are : getD l places.loopCount 0 ≡ length (inlinedLoops d (inlinedRows d))
   unfolding inlinedProblem
-  loops-are = at-place.loops-are (inlinedProblem d) (sized d)
-
-  edition-is : getD l places.edition 0 ≡ 1
-  unfolding numbersOf
-  edition-is = refl
+  loops-are = at-place.loops-are (editionOf (inlinedProblem d)) (inlinedProblem d) (sized d)
 
   module _ (facts : DrawingFacts d) (L : Drawn-lawful d) (size : ℕ → ℕ) (D : Drawn d size) where
     abbrev rows : List Row
@@ -130,8 +128,11 @@ module _ (d : List ℕ) (F : Few d) where
 
     pub field-facts : FieldFacts (numbersOf (inlinedProblem d))
     field-facts =
+        let edition-is = own-edition (editionOf (inlinedProblem d)) (inlinedProblem d) in
+        let limits = edition-limits (inlinedProblem d) in
         record {
-          edition = edition-is;
+          edition-low = omega (arith, edition-is, limits .0);
+          edition-high = omega (arith, edition-is, limits .1);
           scratchpad-low = rw scratchpad-is (facts .scratchpad-low);
           scratchpad-high = rw scratchpad-is (facts .scratchpad-high);
           some-function = rw functions-are (facts .some-function);
@@ -147,6 +148,13 @@ module _ (d : List ℕ) (F : Few d) where
           load = λ i h.
               let k : i < drawnFunctions d = omega (arith, functions-are) in
               rw (ap (λ (f : Function). f .load .0) (function-is (facts .functions) i k)) (facts .drawn i k .load);
+          check = λ i h.
+              let k : i < drawnFunctions d = omega (arith, functions-are) in
+              rw (ap (λ (f : Function). f .check .0) (function-is (facts .functions) i k)) (facts .drawn i k .check);
+          unchecked = λ one i h.
+              check-number (editionOf (inlinedProblem d)) (inlinedProblem d) (sized d) i (omega (arith, at-place.functions-are (editionOf (inlinedProblem d)) (inlinedProblem d) (sized d)))
+              (omega (arith, functions-are, facts .functions))
+              ∙ first-unchecked (inlinedProblem d) (omega (arith, edition-is)) i;
           function = λ i h.
               let k : i < length rows = omega (arith, vertices-are) in
               rw (functions-are, ap (λ (v : Vertex). v .function) (vertex-is i k)) (row-fits i k .0);

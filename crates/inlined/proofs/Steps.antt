@@ -9,12 +9,10 @@ use Rattle.model.specs.declared.Loop.{Loop}
 use Rattle.model.specs.declared.Vertex.{Vertex}
 use Rattle.model.specs.Zero.{zeroFunction, zeroVertex}
 use Rattle.model.specs.Places as places
-use Rattle.model.specs.Graph.{verticesOf, loopsOf}
-use Rattle.model.specs.Costs.{loadCost}
+use Rattle.model.specs.Graph.{functionsOf, verticesOf, loopsOf}
 use Rattle.model.specs.Walks.{EdgeOf, lastVertex}
 use Rattle.model.specs.Drawings.{drawnFunctions, drawnFunction, graphOf}
 use Rattle.model.specs.Inlined.{inlinedRows, copied, inlinedProblem}
-use Rattle.model.specs.CallStack.{loadOf}
 use Rattle.model.proofs.Lists.{getD-take-table}
 use Rattle.calls.proofs.States.{State, spot, at, Drawn}
 use Rattle.calls.proofs.Runs.{Joined}
@@ -60,16 +58,18 @@ module _ (d : List ℕ) (I : Inlines d) where
       let low : i < length (inlinedRows d) = omega (arith, all-rows d I .count) in
       vertex-of d (I .few) i low ∙ ap (copied d) (all-rows d I .are i low)
 
-  load-is : (f : ℕ) → f < drawnFunctions d → loadCost (inlinedProblem d) f ≡ loadOf d f
+  -- Its functions are the drawn ones.
+  function-shown : (f : ℕ) → f < drawnFunctions d → getD (functionsOf (inlinedProblem d)) f zeroFunction ≡ getD (functionsOf (graphOf d f)) f zeroFunction
   unfolding graphOf
-  load-is f h =
+  function-shown f h =
       let few = I .facts .functions in
-      ap (λ (x : Function). x .load .0) (function-of d (I .few) few f h ∙ sym (getD-take-table (drawnFunctions d) places.mostFunctions (λ i. drawnFunction d f) f zeroFunction few h))
+      function-of d (I .few) few f h ∙ sym (getD-take-table (drawnFunctions d) places.mostFunctions (λ i. drawnFunction d f) f zeroFunction few h)
 
   pub labelled : Labelled d (size d) (inlinedProblem d)
   labelled =
       record {
         function = λ i h. ap (λ (x : Vertex). x .function) (vertex-shown i h) ∙ copied-shown (at d i) .0;
         own = λ i h. ap (λ (x : Vertex). x .cost .0) (vertex-shown i h) ∙ copied-shown (at d i) .1;
-        load = load-is;
+        load = λ f h. ap (λ (x : Function). x .load .0) (function-shown f h);
+        check = λ f h. ap (λ (x : Function). x .check .0) (function-shown f h);
       }

@@ -14,20 +14,17 @@ sized c = c .before
 abbrev entry : tie.After-scratchpad → tie.Start
 entry c = c .before
 
-element-write-numbers : tie.Need-element-write-numbers
-element-write-numbers c = search needs
-
 scratchpad-requires : tie.Need-scratchpad-requires
 scratchpad-requires c κs = search needs
 
-element-write-numbers-2 : tie.Need-element-write-numbers-2
-element-write-numbers-2 c = search needs
+element-write-numbers : tie.Need-element-write-numbers
+element-write-numbers c = search needs
 
 function-count-requires : tie.Need-function-count-requires
 function-count-requires c κs = search needs
 
-element-write-numbers-3 : tie.Need-element-write-numbers-3
-element-write-numbers-3 c = search needs
+element-write-numbers-2 : tie.Need-element-write-numbers-2
+element-write-numbers-2 c = search needs
 
 put-functions-requires : tie.Need-put-functions-requires
 put-functions-requires c κs = search needs
@@ -43,10 +40,9 @@ pub put-head-spec : {M : Type 1} → statement M
 put-head-spec =
     tie.close
     (tie.spec
-    element-write-numbers
     scratchpad-requires
-    element-write-numbers-2
+    element-write-numbers
     function-count-requires
-    element-write-numbers-3
+    element-write-numbers-2
     put-functions-requires
     returns)

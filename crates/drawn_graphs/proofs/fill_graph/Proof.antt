@@ -4,6 +4,10 @@ use borrow.Author.Needs.{needs}
 use Rattle.drawn_graphs.proofs.fill_graph.Statement.{statement}
 use Rattle.drawn_graphs.proofs.fill_graph.Tie as tie
 
+-- The last list is stored, and then the edition.
+abbrev stored : tie.After-put-edition → tie.After-put-loops
+stored c = c .before .before
+
 -- Where each count was read, the last one first; the list before it is stored then.
 abbrev loops : tie.After-put-loops → tie.After-loop-count
 loops c = c .before .before .before
@@ -17,20 +21,17 @@ vertices c = c .before .before .before
 abbrev functions : tie.After-put-functions → tie.After-function-count
 functions c = c .before .before .before
 
-element-write-l : tie.Need-element-write-l
-element-write-l c = search needs
-
 scratchpad-requires : tie.Need-scratchpad-requires
 scratchpad-requires c κs = search needs
 
-element-write-l-2 : tie.Need-element-write-l-2
-element-write-l-2 c = search needs
+element-write-l : tie.Need-element-write-l
+element-write-l c = search needs
 
 function-count-requires : tie.Need-function-count-requires
 function-count-requires c κs = search needs
 
-element-write-l-3 : tie.Need-element-write-l-3
-element-write-l-3 c = search needs
+element-write-l-2 : tie.Need-element-write-l-2
+element-write-l-2 c = search needs
 
 at-most-requires : tie.Need-at-most-requires
 at-most-requires c κs = search needs
@@ -41,8 +42,8 @@ put-functions-requires c κs = search needs
 vertex-count-requires : tie.Need-vertex-count-requires
 vertex-count-requires c κs = search needs
 
-element-write-l-4 : tie.Need-element-write-l-4
-element-write-l-4 c = search needs
+element-write-l-3 : tie.Need-element-write-l-3
+element-write-l-3 c = search needs
 
 at-most-requires-2 : tie.Need-at-most-requires-2
 at-most-requires-2 c κs = search needs
@@ -53,8 +54,8 @@ put-vertices-requires c κs = search needs
 edge-count-requires : tie.Need-edge-count-requires
 edge-count-requires c κs = search needs
 
-element-write-l-5 : tie.Need-element-write-l-5
-element-write-l-5 c = search needs
+element-write-l-4 : tie.Need-element-write-l-4
+element-write-l-4 c = search needs
 
 at-most-requires-3 : tie.Need-at-most-requires-3
 at-most-requires-3 c κs = search needs
@@ -65,8 +66,8 @@ put-edges-requires c κs = search needs
 loop-count-requires : tie.Need-loop-count-requires
 loop-count-requires c κs = search needs
 
-element-write-l-6 : tie.Need-element-write-l-6
-element-write-l-6 c = search needs
+element-write-l-5 : tie.Need-element-write-l-5
+element-write-l-5 c = search needs
 
 at-most-requires-4 : tie.Need-at-most-requires-4
 at-most-requires-4 c κs = search needs
@@ -74,9 +75,13 @@ at-most-requires-4 c κs = search needs
 put-loops-requires : tie.Need-put-loops-requires
 put-loops-requires c κs = search needs
 
+put-edition-requires : tie.Need-put-edition-requires
+put-edition-requires c κs = search needs
+
 returns : tie.Need-returns
 returns c =
-    let o = loops c in
+    let l = stored c in
+    let o = loops l in
     let e = edges (o .before) in
     let v = vertices (e .before) in
     let n = functions (v .before) in
@@ -90,33 +95,34 @@ returns c =
     (e .edge-count .ensures)
     (o .before .before .at-most3 .ensures)
     (o .loop-count .ensures)
-    (c .before .at-most4 .ensures)
+    (l .before .at-most4 .ensures)
     (v .before .put-functions .ensures)
     (e .before .put-vertices .ensures)
     (o .before .put-edges .ensures)
-    (c .put-loops .ensures)
+    (l .put-loops .ensures)
+    (c .put-edition .ensures)
 
 pub fill-graph-spec : {M : Type 1} → statement M
 fill-graph-spec =
     tie.close
     (tie.spec
-    element-write-l
     scratchpad-requires
-    element-write-l-2
+    element-write-l
     function-count-requires
-    element-write-l-3
+    element-write-l-2
     at-most-requires
     put-functions-requires
     vertex-count-requires
-    element-write-l-4
+    element-write-l-3
     at-most-requires-2
     put-vertices-requires
     edge-count-requires
-    element-write-l-5
+    element-write-l-4
     at-most-requires-3
     put-edges-requires
     loop-count-requires
-    element-write-l-6
+    element-write-l-5
     at-most-requires-4
     put-loops-requires
+    put-edition-requires
     returns)

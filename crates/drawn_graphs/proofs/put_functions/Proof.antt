@@ -4,17 +4,17 @@ use Rattle.model.specs.declared.Function.{Function}
 use Rattle.model.specs.Numbers.{table, functionNumbers}
 use Rattle.model.specs.Drawings.{drawnFunction}
 use Rattle.numbers.proofs.Places.{Storing, stored-all}
-use Rattle.numbers.proofs.Tables.{two-none, two-more}
+use Rattle.numbers.proofs.Tables.{three-none, three-more}
 use Rattle.model.specs.Places as places
 use borrow.Author.Needs.{needs}
 use Rattle.drawn_graphs.proofs.put_functions.Statement.{statement}
 use Rattle.drawn_graphs.proofs.put_functions.Tie as tie
 
 abbrev Inv-loop : tie.InvT-loop
-Inv-loop l₀ d f used size load i₀ l i = Storing functionNumbers used places.size (table used (λ j. drawnFunction d f)) l₀ i l
+Inv-loop l₀ d f used size load check i₀ l i = Storing functionNumbers used places.size (table used (λ j. drawnFunction d f)) l₀ i l
 
 abbrev μ-loop : tie.MeasureT-loop
-μ-loop l₀ d f used size load i₀ l i = used - i
+μ-loop l₀ d f used size load check i₀ l i = used - i
 
 drawn-at-requires : tie.Need-drawn-at-requires Inv-loop μ-loop
 drawn-at-requires c κs = search needs
@@ -22,8 +22,11 @@ drawn-at-requires c κs = search needs
 drawn-at-requires-2 : tie.Need-drawn-at-requires-2 Inv-loop μ-loop
 drawn-at-requires-2 c κs = search needs
 
+drawn-at-requires-3 : tie.Need-drawn-at-requires-3 Inv-loop μ-loop
+drawn-at-requires-3 c κs = search needs
+
 loop-holds : tie.Need-loop-holds Inv-loop μ-loop
-loop-holds c = two-none (λ (x : Function). x .size .0) (λ (x : Function). x .load .0) _ places.size _ _
+loop-holds c = three-none (λ (x : Function). x .size .0) (λ (x : Function). x .load .0) _ places.size _ _ (λ (x : Function). x .check .0)
 
 mul-l : tie.Need-mul-l Inv-loop μ-loop
 mul-l c = search needs
@@ -49,6 +52,18 @@ mul-l-4 c = search needs
 element-write-l-2 : tie.Need-element-write-l-2 Inv-loop μ-loop
 element-write-l-2 c = search needs
 
+mul-l-5 : tie.Need-mul-l-5 Inv-loop μ-loop
+mul-l-5 c = search needs
+
+add-l-3 : tie.Need-add-l-3 Inv-loop μ-loop
+add-l-3 c = search needs
+
+mul-l-6 : tie.Need-mul-l-6 Inv-loop μ-loop
+mul-l-6 c = search needs
+
+element-write-l-3 : tie.Need-element-write-l-3 Inv-loop μ-loop
+element-write-l-3 c = search needs
+
 add-i : tie.Need-add-i Inv-loop μ-loop
 add-i c = search needs
 
@@ -57,12 +72,14 @@ loop-less c = search needs
 
 loop-again : tie.Need-loop-again Inv-loop μ-loop
 loop-again c =
-    let load-told = c .before .before in
-    two-more (λ (x : Function). x .size .0) (λ (x : Function). x .load .0) _ places.size _ _ _ _ _ _
+    let check-told = c .before .before in
+    let load-told = check-told .before in
+    three-more (λ (x : Function). x .size .0) (λ (x : Function). x .load .0) _ places.size _ _ (λ (x : Function). x .check .0) _ _ _ _ _
     (c .loop-test .taken)
     (c .before .loop .inv)
     (load-told .before .drawn-at .ensures)
     (load-told .drawn-at2 .ensures)
+    (check-told .drawn-at3 .ensures)
 
 returns : tie.Need-returns Inv-loop μ-loop
 returns c = stored-all functionNumbers _ places.size _ _ _ _ (c .loop-test .left) (c .before .loop .inv)
@@ -75,6 +92,7 @@ put-functions-spec =
     μ-loop
     drawn-at-requires
     drawn-at-requires-2
+    drawn-at-requires-3
     loop-holds
     mul-l
     add-l
@@ -84,6 +102,10 @@ put-functions-spec =
     add-l-2
     mul-l-4
     element-write-l-2
+    mul-l-5
+    add-l-3
+    mul-l-6
+    element-write-l-3
     add-i
     loop-less
     loop-again

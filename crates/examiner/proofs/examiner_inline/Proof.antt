@@ -52,7 +52,10 @@ returns c =
     (inline-stands _ _ _ b (λ p. writtenBuffer p out) (λ f. out) _ (f .refusal-in .ensures))
 
 write-checked-requires : tie.Need-write-checked-requires
-write-checked-requires c κs = let e = c .before .before in built e .inline-numbers .ensures .checked (e .enum-told .given .1)
+write-checked-requires c κs =
+    let e = c .before .before in
+    let inlined = built e .inline-numbers .ensures in
+    (inlined .checked (e .enum-told .given .1), inlined .edition (e .enum-told .given .1))
 
 tell-written-requires : tie.Need-tell-written-requires
 tell-written-requires c κs = search needs

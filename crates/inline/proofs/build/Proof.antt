@@ -30,6 +30,9 @@ few-linked c = c .before .before .before
 abbrev placed : tie.After-put-edges → tie.After-fill-places
 placed c = headed (filled (linked c))
 
+abbrev stored : tie.After-put-edition → tie.Else3
+stored c = c .before .before
+
 rows-of-requires : tie.Need-rows-of-requires
 rows-of-requires c κs = search needs
 
@@ -81,12 +84,17 @@ returns-3 c =
 element-write-numbers-2 : tie.Need-element-write-numbers-2
 element-write-numbers-2 c = search needs
 
+put-edition-requires : tie.Need-put-edition-requires
+put-edition-requires c κs = search needs
+
 returns-4 : tie.Need-returns-4
 returns-4 c =
-    let e = few-linked (c .before) in
+    let o = stored c in
+    let e = few-linked (o .before) in
     let at = placed (e .before) in
     built _ (rowed at .before .pre .0) _ _ (rowed at .rows-of .ensures) (fitting at .if1 .left) _ _ _ (e .before .put-edges .ensures) (e .if2 .left)
-    _ _ (c .before .put-loops .ensures) (c .if3 .left) _ _ (rowed at .before .pre .1) (filled (linked (e .before)) .put-head .ensures) (linked (e .before) .put-vertices .ensures)
+    _ _ (o .before .put-loops .ensures) (o .if3 .left) _ _ (rowed at .before .pre .1) (filled (linked (e .before)) .put-head .ensures) (linked (e .before) .put-vertices .ensures)
+    _ (c .put-edition .ensures)
 
 pub build-spec : {M : Type 1} → statement M
 build-spec =
@@ -104,4 +112,5 @@ build-spec =
     put-loops-requires
     returns-3
     element-write-numbers-2
+    put-edition-requires
     returns-4)
