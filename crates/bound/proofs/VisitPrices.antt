@@ -1,4 +1,4 @@
--- A visit's price by the flags that Bound fills, own cost plus flag times load cost, is document 01's visit charge.
+-- A visit's price by the flags that Bound fills, own cost plus flags times check cost and load cost, is the visit charge.
 use Prim.Native.Nat.{ℕ, _<_}
 use mathlib.Core.Path.{_≡_, refl, sym}
 use mathlib.Core.List.{List}
@@ -18,6 +18,7 @@ use Rattle.filled.proofs.Filled.{same-regions}
 use Rattle.layout.proofs.FilledIn.{accepted-short}
 use Rattle.rivals.specs.Rivals.{RivalTable}
 use Rattle.held.specs.Flow.{HeldTable}
+use Rattle.entered.specs.Entered.{EnteredTold}
 use Rattle.charges.specs.Tests.{contestedBy, sharedTest, Tallied, price}
 use Rattle.charges.proofs.Prices.{price-is-visit-charge}
 use Rattle.early.proofs.Told.{shared-contested}
@@ -35,11 +36,12 @@ module _ {l rivals held : List ℕ} (checked : Checked l) (is-held : HeldTable (
 
   -- Bound fills the tables for the layout filled in. Wherever it gives a bound, at every vertex the price is the visit charge by that bound's contested vertices.
   pub bound-prices :
-      {layout flags : List ℕ} {tally : ℕ} {b : Bound} → RivalTable (problemOf l) (filledIn layout (problemOf l .«function_count»)) rivals →
-      Tallied (problemOf l .«vertex_count») (contestedBy (problemOf l) rivals held) flags tally → (says : BoundSays (problemOf l) layout (Bounded b)) →
-      (v : ℕ) → v < problemOf l .«vertex_count» → price (problemOf l) flags v ≡ visitCharge (problemOf l) (says .1 .contested) v
+      {layout entered flags : List ℕ} {tally : ℕ} {b : Bound} → RivalTable (problemOf l) (filledIn layout (problemOf l .«function_count»)) rivals →
+      EnteredTold (problemOf l) entered → Tallied (problemOf l .«vertex_count») (contestedBy (problemOf l) rivals held) flags tally →
+      (says : BoundSays (problemOf l) layout (Bounded b)) →
+      (v : ℕ) → v < problemOf l .«vertex_count» → price (problemOf l) entered flags v ≡ visitCharge (problemOf l) (says .1 .contested) v
   unfolding visitCharge
-  bound-prices {layout} {flags} is-rivals marked says v below =
+  bound-prices {layout} {entered} {flags} is-rivals told marked says v below =
       let same = same-regions layout (problemOf l .«function_count») (accepted-short (problemOf l) layout (says .0)) in
       rw (← told-contested is-rivals (told-alike refl refl (sym same) (says .1 .told)) v below)
-      (price-is-visit-charge (problemOf l) flags (marked .told) v below)
+      (price-is-visit-charge (problemOf l) entered flags told (marked .told) v below)

@@ -29,13 +29,14 @@ pub fn price(l: &Numbers, layout: &[u8], need: Bytes) -> BoundAnswer
     reach::first_reach(l, &begins, &mut fresh);
     let mut flags = [0u8; places::MOST_VERTICES];
     let contested = charges::mark_contested(l, &rivals, &held, &mut flags);
+    let entered = entered::entered_flags(l);
     let early = early::early_words(l, &flags, &fresh);
     let cold = early::functions_in(&early, 0, lookup::vertex_count(l));
     let first = early::first_loads(l, cold);
     let edges = chains::edge_chains(l);
     let loops = chains::loop_chains(l);
-    let greatest = sums::greatest_charges(l, &edges, &loops, &flags);
-    let second = sums::greatest_second(l, &edges, &loops, &flags, &early);
+    let greatest = sums::greatest_charges(l, &edges, &loops, &entered, &flags);
+    let second = sums::greatest_second(l, &edges, &loops, &entered, &flags, &early);
     totals::answer_of(need, contested, first, greatest, second)
 }
 

@@ -6,7 +6,8 @@ use mathlib.Core.Bool.{Bool, true, false, cond}
 use native.Mathlib.Omega.{arith}
 use lib.ListN.{getD}
 use lib.Dec.{eqb}
-use Rattle.charges.specs.Tests.{FlagsTell, Flags, flagged}
+use Rattle.entered.specs.Flags.{FlagsTell}
+use Rattle.charges.specs.Tests.{Flags, flagged}
 
 answer-back : (b : Bool) → eqb (cond b 1 0) 1 ≡ b
 answer-back true = refl

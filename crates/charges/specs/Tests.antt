@@ -1,18 +1,19 @@
 -- Contested, told by words: word f of `rivals` has the other functions of the region of f, word v of `held` the functions that a walk to v may find held.
--- Flags keep a test's answers, 1 where it passes, and multiply the load cost in a visit's price.
+-- Flags keep a test's answers, 1 where it passes, and multiply the check cost and the load cost in a visit's price.
 use Prim.Native.Nat.{ℕ, _+_, _*_, _≤_, _<_}
 use mathlib.Core.Path.{_≡_}
 use mathlib.Core.List.{List}
-use mathlib.Core.Bool.{Bool, cond}
+use mathlib.Core.Bool.{Bool}
 use lib.ListN.{length, getD}
 use lib.Dec.{eqb, ltb}
 use lib.Bits.{bitAnd}
 use Rattle.model.specs.declared.Problem.{Problem}
-use Rattle.model.specs.Costs.{functionOf, ownCost, loadCost, howMany}
+use Rattle.model.specs.Costs.{functionOf, ownCost, loadCost, checkCost, howMany}
 use Rattle.model.specs.Charges.{visitCharge}
 use Rattle.model.specs.Limits as limits
 use Rattle.model.specs.Places as places
 use Rattle.sound.specs.Decide.{contestedTest}
+use Rattle.entered.specs.Flags.{FlagsTell}
 
 -- A walk may come to v with a rival of its function held.
 abbrev pub sharedTest : List ℕ → List ℕ → Problem → ℕ → Bool
@@ -20,11 +21,6 @@ sharedTest rivals held p v = ltb 0 (bitAnd (getD held v 0) (getD rivals (functio
 
 unfoldable pub contestedBy : Problem → List ℕ → List ℕ → ℕ → Bool
 contestedBy p rivals held = contestedTest p (sharedTest rivals held p)
-
--- The flags keep a test's answers for the numbers below n.
-pub record FlagsTell (n : ℕ) (test : ℕ → Bool) (flags : List ℕ) : Type 0 where
-  pub long : length flags ≡ places.mostVertices
-  pub flag : (v : ℕ) → v < n → getD flags v 0 ≡ cond (test v) 1 0
 
 -- The flags, and how many of them are set.
 pub record Tallied (n : ℕ) (test : ℕ → Bool) (flags : List ℕ) (tally : ℕ) : Type 0 where
@@ -39,13 +35,14 @@ pub record Flags (n : ℕ) (flags : List ℕ) : Type 0 where
 unfoldable pub flagged : List ℕ → ℕ → Bool
 flagged flags v = eqb (getD flags v 0) 1
 
--- A visit's *price*, with a product for its load as in formula (7) of document 003: own cost, plus flag times load cost.
-unfoldable pub price : Problem → List ℕ → ℕ → ℕ
-price p flags v = ownCost p v + getD flags v 0 * loadCost p (functionOf p v)
+-- A visit's *price*, with a product for its load as in formula (7) of document 003: own cost, plus the flag of entered vertices times check cost, plus flag
+-- times load cost.
+unfoldable pub price : Problem → (entered flags : List ℕ) → ℕ → ℕ
+price p entered flags v = ownCost p v + getD entered v 0 * checkCost p (functionOf p v) + getD flags v 0 * loadCost p (functionOf p v)
 
--- An own cost and a load cost come to no more.
+-- An own cost, a check cost and a load cost come to no more.
 abbrev pub chargeLimit : ℕ
-chargeLimit = limits.mostCycles + limits.mostCycles
+chargeLimit = limits.mostCycles + limits.mostCycles + limits.mostCheck
 
 -- A table of visit charges.
 pub record Charged (p : Problem) (contested : ℕ → Bool) (charge : List ℕ) : Type 0 where

@@ -28,7 +28,8 @@ use Rattle.held.specs.Flow.{HeldTable}
 use Rattle.bits.proofs.Members.{common}
 use Rattle.held.proofs.Flow.{held-known}
 use Rattle.bits.specs.Tests.{has}
-use Rattle.charges.specs.Tests.{sharedTest, contestedBy, FlagsTell}
+use Rattle.entered.specs.Flags.{FlagsTell}
+use Rattle.charges.specs.Tests.{sharedTest, contestedBy}
 use Rattle.charges.proofs.Flags.{flag-told}
 use Rattle.early.specs.Early.{freshTest, earlyBy, earlyTold, EarlyTable, Gathered}
 use Rattle.early.proofs.Words.{word-members}

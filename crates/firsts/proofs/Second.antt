@@ -1,5 +1,5 @@
--- Simulated cycles are at most the second total, on every walk. First for any price of a visit without its load that is at most the own cost, then in
--- document 01's terms.
+-- Simulated cycles are at most the second total, on every walk. First for any price of a visit without its load that is at most what its vertex is charged
+-- without it, then in document 01's terms.
 use Prim.Native.Nat.{ℕ, _+_, _≤_, _<_}
 use native.Mathlib.Omega.{arith}
 use mathlib.Core.Path.{_≡_, refl}

@@ -9,10 +9,10 @@ use Rattle.model.specs.declared.Problem.{Problem}
 use Rattle.model.specs.declared.Bound.{Bound}
 use Rattle.model.specs.Limits.{mostRegions}
 use Rattle.model.specs.Graph.{broken}
-use Rattle.model.specs.Costs.{sizeOf, loadCost, functionOf, ownCost, total, largest}
+use Rattle.model.specs.Costs.{sizeOf, loadCost, checkCost, functionOf, ownCost, total, largest}
 use Rattle.model.specs.Layouts.{regionOf, largestIn, needOf, judgeRegions}
 use Rattle.model.specs.Walks.{lastVertex}
-use Rattle.model.specs.Runs.{held, hit, cycles, loads, heldNumber, heldAfter}
+use Rattle.model.specs.Runs.{held, hit, checkAt, cycles, loads, heldNumber, heldAfter}
 use Rattle.model.specs.Results.{BoundIs, PastTheLimit}
 use Rattle.model.proofs.Told.{told-alike}
 
@@ -27,7 +27,9 @@ module _ (a b : List ℕ) (same : regionOf a ≡ regionOf b) (p : Problem) where
   pub alike-cycles : (h : List ℕ) → cycles p a h ≡ cycles p b h
   unfolding cycles
   alike-cycles [] = refl
-  alike-cycles (v ∷ h) = λ i. alike-cycles h i + (ownCost p v + cond (hit (functionOf p) (same i) v h) 0 (loadCost p (functionOf p v)))
+  alike-cycles (v ∷ h) = λ i.
+      alike-cycles h i
+      + (ownCost p v + checkAt (functionOf p) (checkCost p) v h + cond (hit (functionOf p) (same i) v h) 0 (loadCost p (functionOf p v)))
 
   pub alike-loads : (h : List ℕ) → loads p a h ≡ loads p b h
   unfolding loads

@@ -10,9 +10,10 @@ use borrow.Author.Tests.{lt-ltb, le-ltb}
 use Rattle.model.specs.declared.Problem.{Problem}
 use Rattle.model.specs.Numbers.{problemOf}
 use Rattle.model.specs.Places as places
-use Rattle.model.specs.Costs.{functionOf, ownCost, loadCost}
+use Rattle.model.specs.Costs.{functionOf, loadCost}
 use Rattle.model.specs.Charges.{visitCharge, secondCharge}
 use Rattle.model.proofs.Cases.{by-cond}
+use Rattle.sound.proofs.Entered.{fixed}
 use Rattle.chains.specs.Chains.{LoopChains}
 use Rattle.charges.specs.Tests.{Flags, flagged}
 use Rattle.early.specs.Early.{earlyIn, EarlyApart}
@@ -58,4 +59,4 @@ pub second-charged :
 unfolding visitCharge secondCharge flagged secondFlag
 second-charged l loops early flags charged chains is-early second v below inside =
     rw (second .flag v below, outside-told l loops chains v inside)
-    (once (ltb 0 (getD loops v 0)) (earlyIn early v) (getD flags v 0) (ownCost (problemOf l) v) (loadCost (problemOf l) (functionOf (problemOf l) v)) (is-early .apart v below))
+    (once (ltb 0 (getD loops v 0)) (earlyIn early v) (getD flags v 0) (fixed (problemOf l) v) (loadCost (problemOf l) (functionOf (problemOf l) v)) (is-early .apart v below))

@@ -1,5 +1,5 @@
--- Simulated cycles are at most visit charges and first loads, on every walk. First for any price of a visit without its load that is at most the
--- own cost, then in document 01's terms.
+-- Simulated cycles are at most visit charges and first loads, on every walk. First for any price of a visit without its load that is at most what its
+-- vertex is charged without it, then in document 01's terms.
 use Prim.Native.Nat.{ℕ, _+_, _≤_, _<_}
 use native.Mathlib.Omega.{arith}
 use mathlib.Core.Path.{_≡_, refl, sym, ap}
@@ -8,7 +8,7 @@ use mathlib.Core.List.{List, [], _∷_, List·Memᴰ, List·Memᴰ·head, List·
 use lib.Dec.{eqb}
 use borrow.Author.Tests.{eqb-true, eq-eqb, ne-eqb}
 use Rattle.model.specs.declared.Problem.{Problem}
-use Rattle.model.specs.Costs.{functionOf, ownCost, loadCost, total}
+use Rattle.model.specs.Costs.{functionOf, loadCost, total}
 use Rattle.model.specs.Walks.{EdgeOf, Walk, start, step}
 use Rattle.model.specs.Layouts.{regionOf}
 use Rattle.model.specs.Interference.{since, occurs, Contested, Early, Cold}
@@ -18,6 +18,7 @@ use Rattle.model.proofs.Cases.{true-not-false}
 use Rattle.sound.proofs.Tests.{not-both}
 use Rattle.sound.proofs.Sums.{total-mono, total-gain}
 use Rattle.sound.proofs.Flow.{since-ne}
+use Rattle.sound.proofs.Entered.{tollOf, fixed, cheap}
 
 module _ (fn region : ℕ → ℕ) where
   -- f was visited, and nothing of its region since: its region holds it.
@@ -56,7 +57,7 @@ owed load cold f = cond (cold f) (load f) 0
 paid : (ℕ → ℕ) → (ℕ → ℕ) → List ℕ → ℕ → ℕ
 paid fn due h f = cond (occurs fn f h) (due f) 0
 
--- A toll is at most the own cost, functions are in range, and the test passes for every contested vertex.
+-- A toll is at most the charge without a load, functions are in range, and the test passes for every contested vertex.
 pub record Fair (fn own load region : ℕ → ℕ) (Edge : ℕ → ℕ → Type 0) (functions : ℕ) (toll : ℕ → List ℕ → ℕ) (contested : ℕ → Bool) : Type 0 where
   pub cheap : (v : ℕ) (h : List ℕ) → Walk Edge v h → toll v h ≤ own v
   pub function : (v : ℕ) (h : List ℕ) → Walk Edge v h → fn v < functions
@@ -139,7 +140,7 @@ module _
       omega (arith, so-far t)
 
 module _ (p : Problem) (layout : List ℕ) where
-  pub cycles-price : (h : List ℕ) → cycles p layout h ≡ price (functionOf p) (loadCost p) (regionOf layout) (λ v h. ownCost p v) h
+  pub cycles-price : (h : List ℕ) → cycles p layout h ≡ price (functionOf p) (loadCost p) (regionOf layout) (tollOf p) h
   unfolding cycles price
   cycles-price [] = refl
   cycles-price (v ∷ h) = rw (cycles-price h)
@@ -147,8 +148,8 @@ module _ (p : Problem) (layout : List ℕ) where
   pub fair-cycles :
       (contested early cold : ℕ → Bool) → Told p layout contested early cold →
       ((v : ℕ) (h : List ℕ) → Walk (EdgeOf p) v h → functionOf p v < p .«function_count») →
-      Fair (functionOf p) (ownCost p) (loadCost p) (regionOf layout) (EdgeOf p) (p .«function_count») (λ v h. ownCost p v) contested
-  fair-cycles contested early cold told function = record { cheap = λ v h t. omega arith; function = function; contested-all = told .contested-all }
+      Fair (functionOf p) (fixed p) (loadCost p) (regionOf layout) (EdgeOf p) (p .«function_count») (tollOf p) contested
+  fair-cycles contested early cold told function = record { cheap = cheap p; function = function; contested-all = told .contested-all }
 
   -- Demand 3, its first half.
   pub cycles-covered :

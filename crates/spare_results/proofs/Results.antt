@@ -22,13 +22,13 @@ use Rattle.model.specs.Costs.{howMany}
 use Rattle.model.specs.Layouts.{regionOf}
 use Rattle.model.specs.Interference.{Interferes}
 use Rattle.model.specs.Charges.{Told, charges}
-use Rattle.model.specs.Runs.{held, hit, cycles, loads, heldNumber, heldAfter}
+use Rattle.model.specs.Runs.{held, hit, checkAt, cycles, loads, heldNumber, heldAfter}
 use Rattle.model.specs.Operations.{SameProblem}
 use Rattle.model.specs.Verdicts.{judgeBound, judgeRun, judgeEviction}
 use Rattle.model.specs.Results.{Member, Sets, InterferenceSays, boundLimit, BoundIs, PastTheLimit, BoundSays, runAfter, runWalk, regionsAfter, runRegions, EvictionSays}
 use Rattle.model.proofs.Told.{told-alike}
 use Rattle.model.proofs.Evictions.{eviction-alike}
-use Rattle.spare.proofs.Views.{same-load, same-function, same-cost, same-edge, same-words, same-need, same-charge, same-first, same-total}
+use Rattle.spare.proofs.Views.{same-load, same-check, same-function, same-cost, same-edge, same-words, same-need, same-charge, same-first, same-total}
 use Rattle.spare.proofs.Walks.{some-too, all-too, greatest-too, smaller-too}
 use Rattle.spare.proofs.Checks.{same-interference, same-bound, same-run}
 
@@ -37,7 +37,11 @@ module _ {p q : Problem} (same : SameProblem p q) (layout : List ℕ) where
   unfolding cycles
   same-cycles [] = refl
   same-cycles (v ∷ h) =
-      λ i. same-cycles h i + (same-cost same i v + cond (hit (same-function same i) (regionOf layout) v h) 0 (same-load same i (same-function same i v)))
+      λ i.
+      same-cycles h i
+      + (same-cost same i v
+      + checkAt (same-function same i) (same-check same i) v h
+      + cond (hit (same-function same i) (regionOf layout) v h) 0 (same-load same i (same-function same i v)))
 
   same-loads : (h : List ℕ) → loads p layout h ≡ loads q layout h
   unfolding loads

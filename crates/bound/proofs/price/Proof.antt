@@ -28,8 +28,11 @@ held c = c .before .before
 abbrev fresh : tie.After-mark-contested → tie.After-first-reach
 fresh c = c .before .before .before .before
 
-abbrev flags : tie.After-early-words → tie.After-mark-contested
-flags c = c .before .before .before
+abbrev flags : tie.After-entered-flags → tie.After-mark-contested
+flags c = c .before
+
+abbrev entered : tie.After-early-words → tie.After-entered-flags
+entered c = c .before .before .before
 
 abbrev early : tie.After-vertex-count → tie.After-early-words
 early c = c .before .before
@@ -41,13 +44,13 @@ abbrev loads : tie.After-loop-chains → tie.After-first-loads
 loads c = c .before .before
 
 abbrev chains : tie.After-greatest-charges → tie.After-loop-chains
-chains c = c .before .before .before .before
+chains c = c .before .before .before .before .before
 
 abbrev greatest : tie.After-greatest-second → tie.After-greatest-charges
-greatest c = c .before .before .before .before .before
+greatest c = c .before .before .before .before .before .before
 
 abbrev begun : tie.After-vertex-count → tie.Start
-begun c = start (rivals (begins (held (fresh (flags (early c)) .before) .before)))
+begun c = start (rivals (begins (held (fresh (flags (entered (early c))) .before) .before)))
 
 -- The chains of edges and loops.
 chained : (c : tie.After-loop-chains) → Chained (begun (cold (loads c) .before) .args .l .now) (c .before .edge-chains .result) (c .loop-chains .result)
@@ -55,13 +58,13 @@ chained c = record { into = c .before .edge-chains .ensures; out = c .loop-chain
 
 computed : (c : tie.After-greatest-second) →
     let counted = cold (loads (chains (greatest c))) .before in
-    Computed (begun counted .args .l .now) (begun counted .args .layout .now) (flags (early counted) .mark-contested .result)
+    Computed (begun counted .args .l .now) (begun counted .args .layout .now) (flags (entered (early counted)) .mark-contested .result)
     (loads (chains (greatest c)) .first-loads .result) (greatest c .greatest-charges .result) (c .greatest-second .result)
 computed c =
     let in-loads = loads (chains (greatest c)) in
     let in-cold = cold in-loads in
     let in-early = early (in-cold .before) in
-    let in-flags = flags in-early in
+    let in-flags = flags (entered in-early) in
     let in-fresh = fresh in-flags in
     record {
       checked = begun (in-cold .before) .pre .0;
@@ -97,6 +100,9 @@ first-reach-requires c κs = let s = begins (held c .before) in (start (rivals s
 mark-contested-requires : tie.Need-mark-contested-requires
 mark-contested-requires c κs = search needs
 
+entered-flags-requires : tie.Need-entered-flags-requires
+entered-flags-requires c κs = start (rivals (begins (held (fresh c .before) .before))) .pre .0
+
 early-words-requires : tie.Need-early-words-requires
 early-words-requires c κs = search needs
 
@@ -117,16 +123,20 @@ loop-chains-requires c κs = begun (cold (c .before) .before) .pre .0
 
 greatest-charges-requires : tie.Need-greatest-charges-requires
 greatest-charges-requires c κs =
-    let in-chains = c .before .before .before in
+    let in-chains = c .before .before .before .before in
     let counted = cold (loads in-chains) .before in
-    (begun counted .pre .0, (flags-low (flags (early counted) .mark-contested .ensures .told), chained in-chains))
+    let in-entered = entered (early counted) in
+    (begun counted .pre .0, (in-entered .entered-flags .ensures, (flags-low (flags in-entered .mark-contested .ensures .told), chained in-chains)))
 
 greatest-second-requires : tie.Need-greatest-second-requires
 greatest-second-requires c κs =
-    let in-chains = chains (c .before .before .before .before) in
+    let in-chains = chains (c .before .before .before .before .before) in
     let counted = cold (loads in-chains) .before in
     let in-early = early counted in
-    (begun counted .pre .0, (flags-low (flags in-early .mark-contested .ensures .told), (chained in-chains, early-apart _ (in-early .early-words .ensures))))
+    let in-entered = entered in-early in (
+      begun counted .pre .0,
+      (in-entered .entered-flags .ensures, (flags-low (flags in-entered .mark-contested .ensures .told), (chained in-chains, early-apart _ (in-early .early-words .ensures)))),
+    )
 
 answer-of-requires : tie.Need-answer-of-requires
 answer-of-requires c κs =
@@ -146,6 +156,7 @@ price-spec =
     may-hold-requires
     first-reach-requires
     mark-contested-requires
+    entered-flags-requires
     early-words-requires
     vertex-count-requires
     functions-in-requires

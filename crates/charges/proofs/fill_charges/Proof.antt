@@ -12,10 +12,10 @@ use Rattle.charges.proofs.fill_charges.Statement.{statement}
 use Rattle.charges.proofs.fill_charges.Tie as tie
 
 abbrev Inv-loop : tie.InvT-loop
-Inv-loop l flags charge₀ count v₀ charge v = (v ≤ count) × ChargedTo (problemOf l) (flagged flags) v charge
+Inv-loop l entered flags charge₀ count v₀ charge v = (v ≤ count) × ChargedTo (problemOf l) (flagged flags) v charge
 
 abbrev μ-loop : tie.MeasureT-loop
-μ-loop l flags charge₀ count v₀ charge v = count - v
+μ-loop l entered flags charge₀ count v₀ charge v = count - v
 
 abbrev counted : tie.At-loop Inv-loop μ-loop → tie.After-vertex-count Inv-loop μ-loop
 counted c = c .before
@@ -28,12 +28,12 @@ vertex-count-requires : tie.Need-vertex-count-requires Inv-loop μ-loop
 vertex-count-requires c κs = search needs
 
 loop-holds : tie.Need-loop-holds Inv-loop μ-loop
-loop-holds c = (omega arith, none-charged (c .before .pre .1 .1))
+loop-holds c = (omega arith, none-charged (c .before .pre .1 .0))
 
 visit-charge-requires : tie.Need-visit-charge-requires Inv-loop μ-loop
 visit-charge-requires c κs =
     let n = counted (c .before) in
-    (n .before .pre .0, (omega (arith, n .vertex-count .ensures, c .loop-test .taken), n .before .pre .1 .0))
+    (n .before .pre .0, (omega (arith, n .vertex-count .ensures, c .loop-test .taken), n .before .pre .1 .1))
 
 mul-charge : tie.Need-mul-charge Inv-loop μ-loop
 mul-charge c = omega (arith, c .before .loop-test .taken, few (c .before .before))

@@ -6,7 +6,7 @@ use Rattle.charges.proofs.times.Statement.{statement}
 use Rattle.charges.proofs.times.Tie as tie
 
 mul-product : tie.Need-mul-product
-mul-product c = let s = c .before in omega (arith, s .pre .1, mul-le-mul-right (s .args .a .0) (s .pre .0))
+mul-product c = let s = c .before in omega (arith, c .struct-known .given, mul-le-mul-right (s .args .a .0) (s .pre))
 
 returns : tie.Need-returns
 returns c = search needs

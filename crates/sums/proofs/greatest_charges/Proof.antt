@@ -18,7 +18,7 @@ greatest-weight-requires : tie.Need-greatest-weight-requires
 greatest-weight-requires c κs =
     let table = charged c in
     let p = start table .pre in
-    (p .1 .1, (p .0, (charged-capped _ _ _ (table .fill-charges .ensures), zeros-capped)))
+    (p .1 .1 .1, (p .0, (charged-capped _ _ _ (table .fill-charges .ensures), zeros-capped)))
 
 returns : tie.Need-returns
 returns c =

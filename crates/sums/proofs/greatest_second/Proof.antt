@@ -26,17 +26,17 @@ fill-charges-requires : tie.Need-fill-charges-requires
 fill-charges-requires c κs =
     let marked = c .before .before in
     let p = start marked .pre in
-    (p .0, (second-low (marked .second-flags .ensures) (p .1 .0), refl))
+    (p .0, (refl, (p .1 .0, second-low (marked .second-flags .ensures) (p .1 .1 .0))))
 
 entry-charges-requires : tie.Need-entry-charges-requires
-entry-charges-requires c κs = let p = start (flags c) .pre in (p .0, (p .1 .1 .0 .out, p .1 .1 .1 .table))
+entry-charges-requires c κs = let p = start (flags c) .pre in (p .0, (p .1 .1 .1 .0 .out, p .1 .1 .1 .1 .table))
 
 greatest-weight-requires : tie.Need-greatest-weight-requires
 greatest-weight-requires c κs =
     let entries = entered c in
     let table = charged entries in
     let p = start (flags table) .pre in
-    (p .1 .1 .0, (p .0, (charged-capped _ _ _ (table .fill-charges .ensures), entries-capped _ _ _ (entries .entry-charges .ensures))))
+    (p .1 .1 .1 .0, (p .0, (charged-capped _ _ _ (table .fill-charges .ensures), entries-capped _ _ _ (entries .entry-charges .ensures))))
 
 returns : tie.Need-returns
 returns c =
@@ -44,7 +44,7 @@ returns c =
     let table = charged entries in
     let marked = flags table in
     let p = start marked .pre in
-    second-weight _ (p .0) _ _ _ _ _ _ (p .1 .1 .0 .out) (p .1 .1 .1) (marked .second-flags .ensures) (table .fill-charges .ensures) (entries .entry-charges .ensures)
+    second-weight _ (p .0) _ _ _ _ _ _ (p .1 .1 .1 .0 .out) (p .1 .1 .1 .1) (marked .second-flags .ensures) (table .fill-charges .ensures) (entries .entry-charges .ensures)
     (c .greatest-weight .ensures)
 
 pub greatest-second-spec : {M : Type 1} → statement M
