@@ -9,10 +9,10 @@ use Rattle.simulation.proofs.simulate.Statement.{statement}
 use Rattle.simulation.proofs.simulate.Tie as tie
 
 abbrev Inv-loop : tie.InvT-loop
-Inv-loop l layout walk held₀ places costs run₀ i₀ held run i = Running (problemOf l) layout walk i held run
+Inv-loop l layout walk held₀ places costs run₀ latest₀ i₀ held run latest i = Running (problemOf l) layout walk i held latest run
 
 abbrev μ-loop : tie.MeasureT-loop
-μ-loop l layout walk held₀ places costs run₀ i₀ held run i = length walk - i
+μ-loop l layout walk held₀ places costs run₀ latest₀ i₀ held run latest i = length walk - i
 
 -- The tables are made, and the walk is gone through.
 abbrev costs : tie.At-loop Inv-loop μ-loop → tie.After-cost-table Inv-loop μ-loop
@@ -25,10 +25,10 @@ abbrev entry : tie.At-loop Inv-loop μ-loop → tie.Start Inv-loop μ-loop
 entry c = places c .before .before .before .before
 
 -- The turn visits entry i.
-abbrev inside : tie.After-visit-arg Inv-loop μ-loop → tie.In-loop Inv-loop μ-loop
-inside c = c .before .before .before .before
+abbrev inside : tie.After-latest Inv-loop μ-loop → tie.In-loop Inv-loop μ-loop
+inside c = c .before .before .before .before .before
 
-abbrev turn : tie.After-visit-arg Inv-loop μ-loop → tie.At-loop Inv-loop μ-loop
+abbrev turn : tie.After-latest Inv-loop μ-loop → tie.At-loop Inv-loop μ-loop
 turn c = inside c .before
 
 place-table-requires : tie.Need-place-table-requires Inv-loop μ-loop
@@ -52,7 +52,7 @@ cast-v c = omega (arith, c .shared-slice-known3 .given (c .before .before .loop 
 visit-requires : tie.Need-visit-requires Inv-loop μ-loop
 visit-requires c κs =
     let t = turn c in
-    ready _ _ _ (entry t .pre) _ _ (places t .place-table .ensures) (costs t .cost-table .ensures) _ _ _ (inside c .loop-test .taken) (t .loop .inv)
+    ready _ _ _ (entry t .pre) _ _ (places t .place-table .ensures) (costs t .cost-table .ensures) _ _ _ _ (inside c .loop-test .taken) (t .loop .inv)
 
 add-i : tie.Need-add-i Inv-loop μ-loop
 add-i c = search needs
@@ -64,10 +64,10 @@ loop-again : tie.Need-loop-again Inv-loop μ-loop
 loop-again c =
     let v = c .before in
     let t = turn v in
-    next-visit _ _ _ (entry t .pre) _ _ (places t .place-table .ensures) (costs t .cost-table .ensures) _ _ _ (inside v .loop-test .taken) (t .loop .inv) _ _ (c .visit .ensures)
+    next-visit _ _ _ (entry t .pre) _ _ (places t .place-table .ensures) (costs t .cost-table .ensures) _ _ _ _ (inside v .loop-test .taken) (t .loop .inv) _ _ _ (c .visit .ensures)
 
 returns : tie.Need-returns Inv-loop μ-loop
-returns c = run-over _ _ _ _ _ _ (c .loop-test .left) (c .before .loop .inv)
+returns c = run-over _ _ _ _ _ _ _ (c .loop-test .left) (c .before .loop .inv)
 
 pub simulate-spec : {M : Type 1} → statement M
 simulate-spec =
