@@ -34,6 +34,6 @@ fn vertices() -> [u64; 257]
 }
 
 pub fn problem() -> Problem {
-    let functions = [3, 1, 1, 1, 1, 1, 1];
+    let functions = [3, 1, 1, 0, 1, 1, 0, 1, 1, 0];
     samples::problem(2, &functions, &vertices(), &edges(), &[1, 0, 126, 1])
 }

@@ -21,7 +21,7 @@ fn cases_of_q_and_r() {
 
 // Function 2 has the shorter walk, and function 1 the lower number.
 fn function_first() {
-    let functions = [4, 1, 1, 1, 1, 1, 1, 1, 1];
+    let functions = [4, 1, 1, 0, 1, 1, 0, 1, 1, 0, 1, 1, 0];
     let vertices = [6, 3, 1, 0, 1, 2, 1, 1, 1, 2, 1, 0, 1];
     let edges = [6, 0, 1, 0, 2, 1, 3, 2, 4, 3, 4, 4, 5];
     let problem = samples::problem(2, &functions, &vertices, &edges, &[0]);
@@ -35,7 +35,7 @@ fn function_first() {
 
 // Of two walks with as many entries, 0 2 3 5 would win from the end.
 fn from_the_start() {
-    let functions = [3, 1, 1, 1, 1, 1, 1];
+    let functions = [3, 1, 1, 0, 1, 1, 0, 1, 1, 0];
     let vertices = [6, 0, 1, 1, 1, 1, 1, 2, 1, 2, 1, 0, 1];
     let edges = [6, 0, 1, 0, 2, 1, 4, 2, 3, 3, 5, 4, 5];
     let problem = samples::problem(1, &functions, &vertices, &edges, &[0]);
@@ -49,7 +49,7 @@ fn from_the_start() {
 
 // The walk passes the vertex before.
 fn twice() {
-    let functions = [3, 1, 1, 1, 1, 1, 1];
+    let functions = [3, 1, 1, 0, 1, 1, 0, 1, 1, 0];
     let vertices = [4, 2, 1, 0, 1, 1, 1, 2, 1];
     let edges = [4, 0, 1, 1, 2, 2, 0, 2, 3];
     let problem = samples::problem(2, &functions, &vertices, &edges, &[1, 0, 2, 2]);
@@ -58,7 +58,7 @@ fn twice() {
 
 // Vertex 0 is a header, and contested.
 fn first_vertex() {
-    let functions = [3, 1, 1, 1, 1, 1, 1];
+    let functions = [3, 1, 1, 0, 1, 1, 0, 1, 1, 0];
     let vertices = [3, 0, 1, 1, 1, 2, 1];
     let edges = [3, 0, 1, 1, 0, 1, 2];
     let problem = samples::problem(2, &functions, &vertices, &edges, &[1, 0, 1, 2]);

@@ -9,14 +9,14 @@ use lib.ListN.{replicate}
 use Rattle.model.specs.declared.Loop.{Loop}
 use Rattle.model.specs.declared.Verdict.the-variants.{Accepted}
 use Rattle.model.specs.Table.{limits, bases, kinds, jumps, counts}
-use Rattle.model.specs.Numbers.{tableFrom, numbersOf}
+use Rattle.model.specs.Numbers.{tableFrom, someCheck, editionOf, numbersIn, numbersOf}
 use Rattle.model.specs.Search.{lowestFrom}
 use Rattle.model.specs.Spelling.{groups, numberSize}
-use Rattle.model.specs.File.{afterCount, afterItem, nextField, belowCount, fromHeader, inRange, edgeBefore, ascends, itemStart, checkFrom, bytesFrom, fileBytes}
+use Rattle.model.specs.File.{afterCount, afterItem, nextField, unwritten, fieldSize, fieldBytes, belowCount, fromHeader, zeroUnwritten, inRange, edgeBefore, ascends, itemStart, checkFrom, bytesFrom, fileBytes}
 use Rattle.model.specs.Graph.{lacks, badRange, wrongEdge, noReturn, graphRules, loopsOf}
 use Rattle.model.specs.Walks.{visits, Within}
 use Rattle.model.specs.Layouts.{filledIn, regionOf}
-use Rattle.model.specs.Runs.{held}
+use Rattle.model.specs.Runs.{held, checkAt}
 use Rattle.model.specs.Operations.{checkProblem}
 use Rattle.model.specs.Verdicts.{judgeProblem}
 use Rattle.model.specs.Drawings.{noCallee, calledBy, graphOf}
@@ -24,30 +24,30 @@ use Rattle.model.specs.Inlining.{numberIn, rowAfter, oneMore, rowsUpTo, inlined
 use Rattle.model.specs.Inlined.{via, calls, judgeHead, judgeGraphs, judgeLast, judgeCalls, judgeCounts, judgeDrawing, inlinedProblem}
 use Rattle.model.specs.CallStack.{frame, Stack, stack, call, go, back, Run, begin, then, AllKeep, LawfulRun, stackCycles}
 
--- Size, load cost and vertices; edges; loops.
+-- Size, load cost, check cost and vertices; edges; loops.
 abbrev caller : List ℕ
 caller =
-    1 ∷ 5 ∷ 3 ∷ noCallee ∷ 1 ∷ 1 ∷ 2 ∷ noCallee ∷ 1 ∷ replicate 250 0
+    1 ∷ 5 ∷ 0 ∷ 3 ∷ noCallee ∷ 1 ∷ 1 ∷ 2 ∷ noCallee ∷ 1 ∷ replicate 250 0
     ++ (3 ∷ 0 ∷ 1 ∷ 1 ∷ 1 ∷ 1 ∷ 2 ∷ replicate 1018 0
     ++ (1 ∷ 1 ∷ 1 ∷ 3 ∷ replicate 93 0))
 
 abbrev helper : List ℕ
-helper = 1 ∷ 3 ∷ 1 ∷ noCallee ∷ 7 ∷ []
+helper = 1 ∷ 3 ∷ 0 ∷ 1 ∷ noCallee ∷ 7 ∷ []
 
 abbrev d : List ℕ
 d = 2 ∷ 2 ∷ caller ++ helper
 
 pub drawn : judgeDrawing d ≡ Accepted
 unfolding judgeDrawing judgeHead judgeGraphs judgeLast judgeCalls judgeCounts via calls calledBy graphOf rowsUpTo oneMore rowAfter inlinedEdges inlinedLoops
-    numberIn flatMap tableFrom lowestFrom numbersOf judgeProblem checkProblem limits bases kinds jumps counts numberSize afterCount afterItem nextField belowCount
-    fromHeader inRange edgeBefore ascends itemStart checkFrom lacks badRange wrongEdge noReturn graphRules
+    numberIn flatMap tableFrom lowestFrom someCheck editionOf numbersIn judgeProblem checkProblem limits bases kinds jumps counts numberSize afterCount afterItem nextField unwritten
+    fieldSize belowCount fromHeader zeroUnwritten inRange edgeBefore ascends itemStart checkFrom lacks badRange wrongEdge noReturn graphRules
 drawn = refl
 
 -- Its problem's file.
 pub written : fileBytes (numbersOf (inlinedProblem d))
     ≡ 1 ∷ 2 ∷ 2 ∷ 1 ∷ 5 ∷ 1 ∷ 3 ∷ 4 ∷ 0 ∷ 1 ∷ 0 ∷ 2 ∷ 1 ∷ 7 ∷ 0 ∷ 1 ∷ 4 ∷ 0 ∷ 1 ∷ 1 ∷ 2 ∷ 2 ∷ 1 ∷ 2 ∷ 3 ∷ 1 ∷ 1 ∷ 2 ∷ 3 ∷ []
-unfolding inlinedProblem calledBy graphOf rowsUpTo oneMore rowAfter inlinedEdges inlinedLoops numberIn flatMap tableFrom lowestFrom numbersOf
-    bases kinds jumps afterCount afterItem nextField bytesFrom groups numberSize
+unfolding inlinedProblem calledBy graphOf rowsUpTo oneMore rowAfter inlinedEdges inlinedLoops numberIn flatMap tableFrom lowestFrom someCheck editionOf numbersIn
+    bases kinds jumps afterCount afterItem nextField unwritten fieldBytes bytesFrom groups numberSize
 written = refl
 
 -- The run that goes round twice: each visit of vertex 1 calls the helper, whose return goes along an edge of vertex 1.
@@ -71,7 +71,7 @@ run =
     (back refl (List·Memᴰ·tail (List·Memᴰ·tail (List·Memᴰ·head refl))))
 
 pub run-cycles : stackCycles d (0 ∷ 0 ∷ []) (at 2 (1 ∷ 1 ∷ 0 ∷ []) ∷ past) ≡ 41
-unfolding stackCycles graphOf tableFrom regionOf filledIn held
+unfolding stackCycles graphOf tableFrom regionOf filledIn held checkAt
 run-cycles = refl
 
 -- It is lawful: each activation keeps its own graph's bounds. Function 0's graph has one loop, the helper's has none.

@@ -3,17 +3,17 @@ use mathlib.Core.Path.{_≡_, refl}
 use mathlib.Core.Bool.{true}
 use mathlib.Core.List.{zipWith, flatMap, List·Memᴰ}
 use Rattle.model.specs.Table.{limits, bases, kinds, jumps, counts}
-use Rattle.model.specs.Numbers.{numbersOf}
+use Rattle.model.specs.Numbers.{someCheck, editionOf, numbersIn}
 use Rattle.model.specs.Search.{lowestFrom}
 use Rattle.model.specs.Spelling.{readGroups, numberSize}
-use Rattle.model.specs.File.{afterCount, afterItem, nextField, belowCount, fromHeader, inRange, edgeBefore, ascends, itemStart, checkFrom, readFrom}
+use Rattle.model.specs.File.{afterCount, afterItem, nextField, unwritten, readField, fieldSize, belowCount, fromHeader, zeroUnwritten, inRange, edgeBefore, ascends, itemStart, checkFrom, readFrom}
 use Rattle.model.specs.Graph.{lacks, badRange, wrongEdge, noReturn, graphRules}
 use Rattle.model.specs.Walks.{visits, sum, entering, weights}
 use Rattle.model.specs.Costs.{total, largest}
 use Rattle.model.specs.Layouts.{lowestFree, filledIn, regionOf, largestIn, needOf, judgeLayout}
 use Rattle.model.specs.Interference.{since, occurs}
-use Rattle.model.specs.Charges.{outside, outermost, visitCharge, firstLoads, secondCharge, holdsEarly, entryCharge, charges}
-use Rattle.model.specs.Runs.{held, cycles, loads}
+use Rattle.model.specs.Charges.{outside, outermost, entered, visitCharge, firstLoads, secondCharge, holdsEarly, entryCharge, charges}
+use Rattle.model.specs.Runs.{held, checkAt, cycles, loads}
 use Rattle.model.specs.Operations.{readFile, checkProblem}
 use Rattle.model.specs.Verdicts.{judgeProblem, judgeBound, mayFollow, pastBound, atLast, judgeWalk, judgeRun}
 use Rattle.model.specs.Decimals.{text, digitsOf, decimal}
@@ -28,10 +28,10 @@ use Rattle.examples.proofs.Means.{means}
 
 computed : all passes marks ≡ true
 unfolding marks problem padded zipWith flatMap boundsAre readsAs passes text decimal digitsOf line refusalLine resultLines any all someFrom everyFrom member
-    fresh handsOn settled setIs everyLawful someLawful greatestIs smallerIs same limits bases kinds jumps counts numbersOf lowestFrom readGroups numberSize
-    afterCount afterItem nextField belowCount fromHeader inRange edgeBefore ascends itemStart checkFrom readFrom lacks badRange wrongEdge noReturn
+    fresh handsOn settled setIs everyLawful someLawful greatestIs smallerIs same limits bases kinds jumps counts someCheck editionOf numbersIn lowestFrom readGroups numberSize
+    afterCount afterItem nextField unwritten readField fieldSize belowCount fromHeader zeroUnwritten inRange edgeBefore ascends itemStart checkFrom readFrom lacks badRange wrongEdge noReturn
     graphRules visits sum entering weights total largest lowestFree filledIn regionOf largestIn needOf judgeLayout since occurs outside outermost
-    visitCharge firstLoads secondCharge holdsEarly entryCharge charges held cycles loads readFile checkProblem judgeProblem judgeBound mayFollow pastBound
+    entered visitCharge firstLoads secondCharge holdsEarly entryCharge charges held checkAt cycles loads readFile checkProblem judgeProblem judgeBound mayFollow pastBound
     atLast judgeWalk judgeRun contestedTest earlyTest
 computed = refl
 

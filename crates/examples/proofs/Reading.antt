@@ -13,8 +13,8 @@ use Rattle.model.specs.declared.FieldsAnswer.the-variants as fields
 use Rattle.model.specs.declared.Problem.{Problem}
 use Rattle.model.specs.declared.ReadAnswer.{ReadAnswer}
 use Rattle.model.specs.declared.ReadAnswer.the-variants as read
-use Rattle.model.specs.Numbers.{numbersOf, Sized}
-use Rattle.model.specs.File.{readFields}
+use Rattle.model.specs.Numbers.{numbersIn, Sized}
+use Rattle.model.specs.File.{editionIn, readFields}
 use Rattle.model.specs.Graph.{judgeGraph}
 use Rattle.model.specs.Operations.{readRest, readFile}
 use Rattle.model.proofs.Answers.{refused-not-accepted}
@@ -34,16 +34,17 @@ done-is size (fields.Done at) e = (at, refl, not-true (ltb at size) e)
 done-is size (fields.Refused f) e = true-not-false (sym e)
 
 module _ (p : Problem) (sized : Sized p) (graph : judgeGraph p ≡ verdict.Accepted) where
-  rest-accepts : (size at : ℕ) (a : FieldsAnswer) (l : List ℕ) → a ≡ fields.Done at → ltb at size ≡ false → l ≡ numbersOf p →
+  rest-accepts : (size at edition : ℕ) (a : FieldsAnswer) (l : List ℕ) → a ≡ fields.Done at → ltb at size ≡ false → l ≡ numbersIn edition p →
       readRest size a l ≡ read.Accepted p
-  rest-accepts size at a l done whole numbers = rw (done, numbers, whole, problem-of-numbers p sized, graph)
+  rest-accepts size at edition a l done whole numbers = rw (done, numbers, whole, problem-of-numbers edition p sized, graph)
 
   pub read-accepts : (file : List ℕ) → doneAt (length file) (readFields file .answer) ≡ true →
-      same (readFields file .numbers) (numbersOf p) ≡ true → readFile file ≡ read.Accepted p
+      same (readFields file .numbers) (numbersIn (editionIn (readFields file .numbers)) p) ≡ true → readFile file ≡ read.Accepted p
   unfolding readFile
   read-accepts file ends numbers =
       let (at, done, whole) = done-is (length file) (readFields file .answer) ends in
-      rest-accepts (length file) at (readFields file .answer) (readFields file .numbers) done whole (same-is (readFields file .numbers) (numbersOf p) numbers)
+      let edition = editionIn (readFields file .numbers) in
+      rest-accepts (length file) at edition (readFields file .answer) (readFields file .numbers) done whole (same-is (readFields file .numbers) (numbersIn edition p) numbers)
 
 pub read-refuses : (f : Refusal) (r : ReadAnswer) → verdictOf r ≡ verdict.Refused f → r ≡ read.Refused f
 read-refuses f (read.Accepted p) e = refused-not-accepted (sym e)

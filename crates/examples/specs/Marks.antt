@@ -1,10 +1,10 @@
 -- The worked examples M1 to M10 of document 01, in its order; each comment has its words. Where it gives some of Bound's four numbers (bytes needed,
 -- contested vertices, first loads, bound), or a run without its loads, the others stand here too. Then two of request 3/14, one for each total, files with
--- padded numbers, of request 6/14, and loop bounds at their greatest and past it, of request 7/14.
+-- padded numbers, of request 6/14, loop bounds at their greatest and past it, of request 7/14, and check costs and editions, of request 9/14.
 use Prim.Native.Nat.{ℕ, _+_}
 use mathlib.Core.List.{List, [], _∷_, _++_}
 use lib.ListN.{take}
-use Rattle.examples.specs.Problems.{P, Q, R, single, oneOfTwo, metTwice}
+use Rattle.examples.specs.Problems.{checkedP, P, checkedQ, Q, checkedR, R, checkedSingle, single, oneOfTwo, metTwice}
 use Rattle.examples.specs.Claims.{Claim, sets, bounds, secondTotals, boundRefused, runs, runRefused, longestRun, reads, readRefused, prints, printsRefusal}
 
 -- P's only walk.
@@ -26,6 +26,10 @@ twoVertices = 0x01 ∷ 0x08 ∷ 0x01 ∷ 0x08 ∷ 0x05 ∷ 0x02 ∷ 0x00 ∷ 0x0
 
 abbrev edgeTwice : List ℕ
 edgeTwice = 0x00 ∷ 0x01 ∷ 0x00 ∷ 0x01 ∷ 0x00 ∷ []
+
+-- M10's file in edition 2, with the bytes of its edition and of its check cost.
+abbrev second : List ℕ → List ℕ → List ℕ
+second edition check = edition ++ (0x08 ∷ 0x01 ∷ 0x08 ∷ 0x05 ∷ check ++ (0x01 ∷ 0x00 ∷ 0x0A ∷ 0x00 ∷ 0x00 ∷ []))
 
 -- R's file up to its edges, with the number of loops and the loops behind them.
 abbrev withLoops : List ℕ → List ℕ
@@ -103,4 +107,37 @@ marks =
     -- A second loop 1 to 2 is 4 at 29 with bound 5, and 3 at 31 with bound 5,000.
     ∷ readRefused (withLoops (0x02 ∷ 0x01 ∷ 0x02 ∷ 0x04 ∷ 0x01 ∷ 0x02 ∷ 0x05 ∷ [])) 4 29
     ∷ readRefused (withLoops (0x02 ∷ 0x01 ∷ 0x02 ∷ 0x04 ∷ 0x01 ∷ 0x02 ∷ 0x88 ∷ 0x27 ∷ [])) 3 31
+    -- 9/14: P with check costs 1 2 3, layout 0 1 1: bound 96, and the run takes 96 with 4 loads.
+    ∷ bounds (checkedP 14 (1 ∷ 2 ∷ 3 ∷ [])) (0 ∷ 1 ∷ 1 ∷ []) 14 2 8 96
+    ∷ runs (checkedP 14 (1 ∷ 2 ∷ 3 ∷ [])) (0 ∷ 1 ∷ 1 ∷ []) chain 96 4
+    -- Q with 2 4, layout 0 1: bound 56. The walk 0 2 3 takes 56, and 0 1 3 takes 46.
+    ∷ bounds (checkedQ (1 ∷ 1 ∷ []) (2 ∷ 4 ∷ [])) (0 ∷ 1 ∷ []) 2 0 8 56
+    ∷ runs (checkedQ (1 ∷ 1 ∷ []) (2 ∷ 4 ∷ [])) (0 ∷ 1 ∷ []) (0 ∷ 2 ∷ 3 ∷ []) 56 2
+    ∷ runs (checkedQ (1 ∷ 1 ∷ []) (2 ∷ 4 ∷ [])) (0 ∷ 1 ∷ []) (0 ∷ 1 ∷ 3 ∷ []) 46 2
+    -- R with 2 4: a check is charged by vertex. Layout 0 1: bound 61, and its longest run takes 59, since its first visit to vertex 1 comes from vertex 0, of
+    -- the same function. Layout 0 0: 87 and 80.
+    ∷ bounds (checkedR 4 (2 ∷ 4 ∷ [])) (0 ∷ 1 ∷ []) 2 0 8 61
+    ∷ longestRun (checkedR 4 (2 ∷ 4 ∷ [])) (0 ∷ 1 ∷ []) 59
+    ∷ bounds (checkedR 4 (2 ∷ 4 ∷ [])) (0 ∷ 0 ∷ []) 1 2 5 87
+    ∷ longestRun (checkedR 4 (2 ∷ 4 ∷ [])) (0 ∷ 0 ∷ []) 80
+    -- With bound 1, edge 2-1 cannot be followed and still makes vertex 1 entered: bound 16, and the only lawful walk takes 11.
+    ∷ bounds (checkedR 1 (2 ∷ 4 ∷ [])) (0 ∷ 1 ∷ []) 2 0 8 16
+    ∷ longestRun (checkedR 1 (2 ∷ 4 ∷ [])) (0 ∷ 1 ∷ []) 11
+    -- M10 with check cost 5, in edition 2: bound 20.
+    ∷ prints (second (0x02 ∷ []) (0x05 ∷ [])) (checkedSingle 5) [] 8 0 5 20 "need 8\ncharged 0\nfirst 5\nbound 20\n"
+    -- Edition 2 without a check cost holds M10's problem. 82 80 80 80 00 is edition 2.
+    ∷ reads (second (0x02 ∷ []) (0x00 ∷ [])) single
+    ∷ reads (second (0x82 ∷ 0x80 ∷ 0x80 ∷ 0x80 ∷ 0x00 ∷ []) (0x85 ∷ 0x00 ∷ [])) (checkedSingle 5)
+    ∷ reads (second (0x02 ∷ []) (0xFF ∷ 0xFF ∷ 0x03 ∷ [])) (checkedSingle 65535)
+    -- Editions 0 and 3 are 3 at 0, and check cost 65,536 is 3 at 5.
+    ∷ readRefused (0x00 ∷ []) 3 0
+    ∷ readRefused (0x03 ∷ []) 3 0
+    ∷ readRefused (second (0x02 ∷ []) (0x80 ∷ 0x80 ∷ 0x04 ∷ [])) 3 5
+    -- Records are placed by the edition that would be written: of Q, check costs 0 and 70,000 are 3 at 8, and 70,000 and 0 are 3 at 5.
+    ∷ boundRefused (checkedQ (1 ∷ 1 ∷ []) (0 ∷ 70000 ∷ [])) (0 ∷ 1 ∷ []) 3 8
+    ∷ boundRefused (checkedQ (1 ∷ 1 ∷ []) (70000 ∷ 0 ∷ [])) (0 ∷ 1 ∷ []) 3 5
+    -- A size 0 of function 1 is 3 at 5 with check costs 0 0, at 6 with 0 1, and at 7 with 300 0.
+    ∷ boundRefused (checkedQ (1 ∷ 0 ∷ []) (0 ∷ 0 ∷ [])) (0 ∷ 1 ∷ []) 3 5
+    ∷ boundRefused (checkedQ (1 ∷ 0 ∷ []) (0 ∷ 1 ∷ [])) (0 ∷ 1 ∷ []) 3 6
+    ∷ boundRefused (checkedQ (1 ∷ 0 ∷ []) (300 ∷ 0 ∷ [])) (0 ∷ 1 ∷ []) 3 7
     ∷ []

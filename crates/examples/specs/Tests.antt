@@ -15,8 +15,8 @@ use Rattle.model.specs.declared.Edge.{Edge}
 use Rattle.model.specs.declared.Problem.{Problem}
 use Rattle.model.specs.Refusals.{number, place}
 use Rattle.model.specs.Search.{existsBelow}
-use Rattle.model.specs.Numbers.{numbersOf}
-use Rattle.model.specs.File.{readFields}
+use Rattle.model.specs.Numbers.{numbersIn}
+use Rattle.model.specs.File.{editionIn, readFields}
 use Rattle.model.specs.Graph.{edgesOf, judgeGraph}
 use Rattle.model.specs.Walks.{lastVertex}
 use Rattle.model.specs.Costs.{functionOf, howMany}
@@ -196,12 +196,12 @@ boundsAre p layout need tally first most =
     ∷ smallerIs p (most - first + firstLoads p (cold p layout)) (secondTotal p (contested p layout) (early p layout)) most
     ∷ everyLawful p (λ h. leb (cycles p layout h) most) ∷ [])
 
--- The file holds this problem.
+-- The file holds this problem, in its edition.
 unfoldable pub readsAs : List ℕ → Problem → Bool
 readsAs file p =
     passed
     (doneAt (length file) (readFields file .answer)
-    ∷ same (readFields file .numbers) (numbersOf p)
+    ∷ same (readFields file .numbers) (numbersIn (editionIn (readFields file .numbers)) p)
     ∷ eqb (length (p .functions)) places.mostFunctions ∷ eqb (length (p .vertices)) places.mostVertices ∷ eqb (length (p .edges)) places.mostEdges ∷ eqb (length (p .loops)) places.mostLoops
     ∷ accepted (judgeGraph p) ∷ [])
 

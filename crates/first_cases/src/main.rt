@@ -24,7 +24,7 @@ fn bounded(title: &[u8], problem: Problem) {
 
 // A walk enters the loop where it starts, and pays there.
 fn header_at_start() {
-    let functions = [1, 1, 5];
+    let functions = [1, 1, 5, 0];
     let vertices = [2, 0, 1, 0, 1];
     let edges = [2, 0, 0, 0, 1];
     let problem = samples::problem(1, &functions, &vertices, &edges, &[1, 0, 0, 2]);
@@ -33,7 +33,7 @@ fn header_at_start() {
 
 // The outer loop's entry pays for functions 1 and 2, the inner loop's for nothing.
 fn inner_loop() {
-    let functions = [3, 1, 5, 1, 3, 1, 4];
+    let functions = [3, 1, 5, 0, 1, 3, 0, 1, 4, 0];
     let vertices = [5, 0, 1, 0, 1, 1, 1, 2, 1, 0, 1];
     let edges = [6, 0, 1, 1, 2, 1, 4, 2, 2, 2, 3, 3, 1];
     let loops = [2, 1, 3, 2, 2, 2, 3];
@@ -44,7 +44,7 @@ fn inner_loop() {
 // Three nested loops from vertex 0 on, of 10^18 - 4,000 cycles in all, and then a branch through function 1 or 2, whose load costs are 4 and 3. If the
 // vertex that joins them is of function 0, the second total is the smaller, by 3; if it is of function 1, document 01's is, by 1.
 fn near_limit(title: &[u8], joins: u64, cost: u64) {
-    let functions = [3, 1, 5, 1, 4, 1, 3];
+    let functions = [3, 1, 5, 0, 1, 4, 0, 1, 3, 0];
     let vertices = [6, 0, 3999, 0, 3999, 0, 15624999, 1, 0, 2, 0, joins, cost];
     let edges = [9, 0, 1, 1, 2, 2, 0, 2, 1, 2, 2, 2, 3, 2, 4, 3, 5, 4, 5];
     let loops = [3, 0, 2, 4000, 1, 2, 4000, 2, 2, 4000];

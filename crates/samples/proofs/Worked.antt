@@ -5,7 +5,8 @@ use mathlib.Core.List.{List}
 use lib.ListN.{set, replicate}
 use lib.Seq.{sets}
 use Rattle.model.specs.declared.Problem.{Problem}
-use Rattle.model.specs.Numbers.{numbersOf, problemOf, Sized}
+use Rattle.model.specs.Numbers.{numbersIn, problemOf, Sized}
+use Rattle.model.specs.Limits.{firstEdition}
 use Rattle.model.specs.File.{numberCount}
 use Rattle.numbers.proofs.Inverse.{problem-of-numbers}
 use Rattle.samples.specs.Listed.{listed}
@@ -24,5 +25,6 @@ assembled scratchpad functions vertices edges loops first second third fourth p 
     ∙ ap (λ (l : List ℕ). sets l places.loopCount loops)
     (e ∙ ap (λ (l : List ℕ). sets l places.edgeCount edges) (v ∙ ap (λ (l : List ℕ). sets l places.vertexCount vertices) f)))
 
-pub is-problem : (p : Problem) → Sized p → (l : List ℕ) → l ≡ numbersOf p → problemOf l ≡ p
-is-problem p sized l e = ap problemOf e ∙ problem-of-numbers p sized
+-- In edition 1, which is no part of it.
+pub is-problem : (p : Problem) → Sized p → (l : List ℕ) → l ≡ numbersIn firstEdition p → problemOf l ≡ p
+is-problem p sized l e = ap problemOf e ∙ problem-of-numbers firstEdition p sized

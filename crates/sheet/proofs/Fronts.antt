@@ -16,7 +16,7 @@ use Rattle.model.specs.declared.Problem.{Problem}
 use Rattle.model.specs.declared.ReadAnswer.{ReadAnswer}
 use Rattle.model.specs.declared.BoundAnswer.{BoundAnswer}
 use Rattle.model.specs.declared.BoundAnswer.the-variants as bound
-use Rattle.model.specs.Numbers.{numbersOf}
+use Rattle.model.specs.Numbers.{numbersIn, numbersOf}
 use Rattle.model.specs.Places.{mostFunctions}
 use Rattle.model.specs.File.{readLength}
 use Rattle.model.specs.Graph.{andThen}
@@ -35,7 +35,7 @@ use Rattle.sheet.specs.Fronts.{layoutLength, count, Fills, Front, FrontO
 
 module _ (p : Problem) where
   few-functions : judgeProblem p ≡ Accepted → p .«function_count» ≤ mostFunctions
-  unfolding judgeProblem checkProblem numbersOf
+  unfolding judgeProblem checkProblem numbersIn
   few-functions e = at (checkProblem p) refl e
     where
       at : (f : FieldsAnswer) → checkProblem p ≡ f → asVerdict f ≡ Accepted → p .«function_count» ≤ mostFunctions

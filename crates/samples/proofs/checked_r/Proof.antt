@@ -1,14 +1,14 @@
--- `p` meets its contract: its numbers are those of P, by computing both.
+-- `checked_r` meets its contract: its numbers are those of R, by computing both.
 use Prim.Native.Nat.{ℕ}
 use mathlib.Core.Path.{refl, _∙_}
-use mathlib.Core.List.{zipWith, flatMap}
+use mathlib.Core.List.{[], _∷_, zipWith, flatMap}
 use borrow.Author.Needs.{needs}
-use Rattle.model.specs.Numbers.{numbersOf, Sized}
-use Rattle.examples.specs.Problems.{padded, problem, P}
+use Rattle.model.specs.Numbers.{numbersIn, Sized}
+use Rattle.examples.specs.Problems.{padded, problem, checkedR}
 use Rattle.samples.specs.Listed.{listed}
 use Rattle.samples.proofs.Worked.{is-problem}
-use Rattle.samples.proofs.p.Statement.{statement}
-use Rattle.samples.proofs.p.Tie as tie
+use Rattle.samples.proofs.checked_r.Statement.{statement}
+use Rattle.samples.proofs.checked_r.Tie as tie
 
 slice-aggregate-problem : tie.Need-slice-aggregate-problem
 slice-aggregate-problem c = search needs
@@ -25,16 +25,16 @@ slice-aggregate-problem-4 c = search needs
 problem-requires : tie.Need-problem-requires
 problem-requires c κs = search needs
 
-sized : (scratchpad : ℕ) → Sized (P scratchpad)
+sized : (bound first second : ℕ) → Sized (checkedR bound (first ∷ second ∷ []))
 unfolding padded problem zipWith
-sized scratchpad = record { functions = refl; vertices = refl; edges = refl; loops = refl }
+sized bound first second = record { functions = refl; vertices = refl; edges = refl; loops = refl }
 
 returns : tie.Need-returns
-unfolding listed numbersOf padded problem zipWith flatMap
-returns c = c .problem .ensures ∙ is-problem (P _) (sized _) _ refl
+unfolding listed numbersIn padded problem zipWith flatMap
+returns c = c .problem .ensures ∙ is-problem (checkedR _ (_ ∷ _ ∷ [])) (sized _ _ _) _ refl
 
-pub p-spec : {M : Type 1} → statement M
-p-spec =
+pub checked-r-spec : {M : Type 1} → statement M
+checked-r-spec =
     tie.close
     (tie.spec
     slice-aggregate-problem

@@ -1,14 +1,14 @@
--- `r` meets its contract: its numbers are those of R, by computing both.
+-- `checked_q` meets its contract: its numbers are those of Q, by computing both.
 use Prim.Native.Nat.{ℕ}
 use mathlib.Core.Path.{refl, _∙_}
-use mathlib.Core.List.{zipWith, flatMap}
+use mathlib.Core.List.{[], _∷_, zipWith, flatMap}
 use borrow.Author.Needs.{needs}
-use Rattle.model.specs.Numbers.{numbersOf, Sized}
-use Rattle.examples.specs.Problems.{padded, problem, R}
+use Rattle.model.specs.Numbers.{numbersIn, Sized}
+use Rattle.examples.specs.Problems.{padded, problem, checkedQ}
 use Rattle.samples.specs.Listed.{listed}
 use Rattle.samples.proofs.Worked.{is-problem}
-use Rattle.samples.proofs.r.Statement.{statement}
-use Rattle.samples.proofs.r.Tie as tie
+use Rattle.samples.proofs.checked_q.Statement.{statement}
+use Rattle.samples.proofs.checked_q.Tie as tie
 
 slice-aggregate-problem : tie.Need-slice-aggregate-problem
 slice-aggregate-problem c = search needs
@@ -25,16 +25,16 @@ slice-aggregate-problem-4 c = search needs
 problem-requires : tie.Need-problem-requires
 problem-requires c κs = search needs
 
-sized : (bound : ℕ) → Sized (R bound)
+sized : (first second : ℕ) → Sized (checkedQ (1 ∷ 1 ∷ []) (first ∷ second ∷ []))
 unfolding padded problem zipWith
-sized bound = record { functions = refl; vertices = refl; edges = refl; loops = refl }
+sized first second = record { functions = refl; vertices = refl; edges = refl; loops = refl }
 
 returns : tie.Need-returns
-unfolding listed numbersOf padded problem zipWith flatMap
-returns c = c .problem .ensures ∙ is-problem (R _) (sized _) _ refl
+unfolding listed numbersIn padded problem zipWith flatMap
+returns c = c .problem .ensures ∙ is-problem (checkedQ (1 ∷ 1 ∷ []) (_ ∷ _ ∷ [])) (sized _ _) _ refl
 
-pub r-spec : {M : Type 1} → statement M
-r-spec =
+pub checked-q-spec : {M : Type 1} → statement M
+checked-q-spec =
     tie.close
     (tie.spec
     slice-aggregate-problem

@@ -1,13 +1,14 @@
--- `q` meets its contract: its numbers are those of Q, by computing both.
+-- `checked_p` meets its contract: its numbers are those of P, by computing both.
+use Prim.Native.Nat.{ℕ}
 use mathlib.Core.Path.{refl, _∙_}
-use mathlib.Core.List.{zipWith, flatMap}
+use mathlib.Core.List.{[], _∷_, zipWith, flatMap}
 use borrow.Author.Needs.{needs}
-use Rattle.model.specs.Numbers.{numbersOf, Sized}
-use Rattle.examples.specs.Problems.{padded, problem, Q}
+use Rattle.model.specs.Numbers.{numbersIn, Sized}
+use Rattle.examples.specs.Problems.{padded, problem, checkedP}
 use Rattle.samples.specs.Listed.{listed}
 use Rattle.samples.proofs.Worked.{is-problem}
-use Rattle.samples.proofs.q.Statement.{statement}
-use Rattle.samples.proofs.q.Tie as tie
+use Rattle.samples.proofs.checked_p.Statement.{statement}
+use Rattle.samples.proofs.checked_p.Tie as tie
 
 slice-aggregate-problem : tie.Need-slice-aggregate-problem
 slice-aggregate-problem c = search needs
@@ -24,16 +25,16 @@ slice-aggregate-problem-4 c = search needs
 problem-requires : tie.Need-problem-requires
 problem-requires c κs = search needs
 
-sized : Sized Q
+sized : (scratchpad first second third : ℕ) → Sized (checkedP scratchpad (first ∷ second ∷ third ∷ []))
 unfolding padded problem zipWith
-sized = record { functions = refl; vertices = refl; edges = refl; loops = refl }
+sized scratchpad first second third = record { functions = refl; vertices = refl; edges = refl; loops = refl }
 
 returns : tie.Need-returns
-unfolding listed numbersOf padded problem zipWith flatMap
-returns c = c .problem .ensures ∙ is-problem (Q) (sized) _ refl
+unfolding listed numbersIn padded problem zipWith flatMap
+returns c = c .problem .ensures ∙ is-problem (checkedP _ (_ ∷ _ ∷ _ ∷ [])) (sized _ _ _ _) _ refl
 
-pub q-spec : {M : Type 1} → statement M
-q-spec =
+pub checked-p-spec : {M : Type 1} → statement M
+checked-p-spec =
     tie.close
     (tie.spec
     slice-aggregate-problem
