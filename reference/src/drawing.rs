@@ -2,8 +2,8 @@
 
 use crate::problem::*;
 
-/// The places of a graph: size and load cost, and each count followed by all the places for its items.
-pub const GRAPH: usize = 2 + (1 + 2 * MOST_VERTICES) + (1 + 2 * MOST_EDGES) + (1 + 3 * MOST_LOOPS);
+/// The places of a graph: size, load cost and check cost, and each count followed by all the places for its items.
+pub const GRAPH: usize = 3 + (1 + 2 * MOST_VERTICES) + (1 + 2 * MOST_EDGES) + (1 + 3 * MOST_LOOPS);
 /// The places of a drawing: the scratchpad size, the number of functions, and a graph for each function that there may be.
 pub const DRAWING: usize = 2 + MOST_FUNCTIONS * GRAPH;
 /// Among a drawing's numbers: the vertex calls nothing.
@@ -24,7 +24,7 @@ pub struct DrawnVertex {
 /// A function, with its graph.
 #[derive(Clone, Debug, PartialEq, Eq)]
 pub struct DrawnFunction {
-    /// Its size and load cost.
+    /// Its size, load cost and check cost.
     pub function: Function,
     /// The vertices, by index.
     pub vertices: Vec<DrawnVertex>,
@@ -67,7 +67,7 @@ impl DrawnFunction {
 
     /// The numbers of a graph, every spare place zero. A count is as it is, even where items have no place.
     fn to_numbers(&self) -> Vec<u32> {
-        let mut numbers = vec![self.function.size, self.function.load];
+        let mut numbers = vec![self.function.size, self.function.load, self.function.check];
         let mut list = |count: usize, items: Vec<u32>, places: usize| {
             let end = numbers.len() + 1 + places;
             numbers.push(count as u32);
@@ -94,14 +94,14 @@ impl Drawing {
 
 /// What the numbers of a graph say: its counts as they stand, and the items that they cover as far as there are places.
 pub fn graph_of(numbers: &[u32], functions: u32) -> (DrawnFunction, Counts) {
-    let (amounts, rest) = numbers.split_at(2);
+    let (amounts, rest) = numbers.split_at(3);
     let (vertices, rest) = rest.split_at(1 + 2 * MOST_VERTICES);
     let (edges, loops) = rest.split_at(1 + 2 * MOST_EDGES);
     let items =
         |list: &[u32], width: usize| -> Vec<Vec<u32>> { list[1..].chunks(width).take(list[0] as usize).map(<[u32]>::to_vec).collect() };
     let callee = |number: u32| (number != NO_CALLEE).then_some(number);
     let drawn = DrawnFunction {
-        function: Function { size: amounts[0], load: amounts[1] },
+        function: Function { size: amounts[0], load: amounts[1], check: amounts[2] },
         vertices: items(vertices, 2).iter().map(|v| DrawnVertex { callee: callee(v[0]), cost: v[1] }).collect(),
         edges: items(edges, 2).iter().map(|e| Edge { from: e[0], to: e[1] }).collect(),
         loops: items(loops, 3).iter().map(|l| Loop { header: l[0], last: l[1], bound: l[2] }).collect(),

@@ -1,9 +1,11 @@
-//! The worked examples of document 01, one more, those of the two totals, and those of drawings; those of evictions and of sentences are in
-//! files of their own.
+//! The worked examples of document 01, one more, those of the two totals, and those of drawings; those of check costs, of evictions and of
+//! sentences are in files of their own.
 
+mod check_costs;
 mod evictions;
 mod sentences;
 
+pub use check_costs::{checked, drawn_with_checks, refused_checks, with_checks, WorkedChecks, M10_CHECKED};
 pub use evictions::{evictions, longest_shown, WorkedEviction};
 pub use sentences::{sentences, NO_SENTENCES};
 
@@ -14,7 +16,7 @@ use crate::problem::*;
 fn problem(scratchpad: u32, functions: &[(u32, u32)], vertices: &[(u32, u32)], edges: &[(u32, u32)], loops: &[(u32, u32, u32)]) -> Problem {
     Problem {
         scratchpad,
-        functions: functions.iter().map(|&(size, load)| Function { size, load }).collect(),
+        functions: functions.iter().map(|&(size, load)| Function { size, load, check: 0 }).collect(),
         vertices: vertices.iter().map(|&(function, cost)| Vertex { function, cost }).collect(),
         edges: edges.iter().map(|&(from, to)| Edge { from, to }).collect(),
         loops: loops.iter().map(|&(header, last, bound)| Loop { header, last, bound }).collect(),
@@ -77,13 +79,13 @@ pub fn w() -> Problem {
 
 /// A drawing of functions of one byte each, with the load costs 5, 3 and 4 and as much room as they need.
 fn drawing(functions: Vec<DrawnFunction>) -> Drawing {
-    let loaded = |(function, load)| DrawnFunction { function: Function { size: 1, load }, ..function };
+    let loaded = |(function, load)| DrawnFunction { function: Function { size: 1, load, check: 0 }, ..function };
     Drawing { scratchpad: functions.len() as u32, functions: functions.into_iter().zip([5, 3, 4]).map(loaded).collect() }
 }
 
 fn drawn(vertices: &[(u32, Option<u32>)], edges: &[(u32, u32)], loops: &[(u32, u32, u32)]) -> DrawnFunction {
     DrawnFunction {
-        function: Function { size: 1, load: 0 },
+        function: Function { size: 1, load: 0, check: 0 },
         vertices: vertices.iter().map(|&(cost, callee)| DrawnVertex { callee, cost }).collect(),
         edges: edges.iter().map(|&(from, to)| Edge { from, to }).collect(),
         loops: loops.iter().map(|&(header, last, bound)| Loop { header, last, bound }).collect(),
@@ -187,6 +189,7 @@ pub fn samples() -> Vec<Sample> {
     };
     vec![
         sample("p", &p(), &[0, 1, 1]),
+        sample("p-checks", &with_checks(p(), &[1, 2, 3]), &[0, 1, 1]),
         sample("q", &q(), &[0, 1]),
         sample("r", &r(), &[0, 1]),
         sample("r-0-0", &r(), &[0, 0]),

@@ -8,8 +8,10 @@
 //! - Interference is a flow along the edges, in sweeps over the vertices whose rows have grown since they were last passed on.
 //! - Bound needs no interference table. A vertex is contested exactly if some walk arrives at it with another function as the latest
 //!   one visited in the region of its own: one word a vertex says which functions may be the latest of their region, and one which
-//!   may not have been visited yet. These also say which vertices are early, and both totals come of one pass over the vertices.
-//! - Run looks each step up in a table of all pairs of vertices, and counts visits to every vertex as if it were a header.
+//!   may not have been visited yet. These also say which vertices are early, one pass over the edges says which are entered, and both totals
+//!   come of one pass over the vertices.
+//! - Run looks each step up in a table of all pairs of vertices, which says too whether the function is checked, and counts visits to every
+//!   vertex as if it were a header.
 //! - Inline, Eviction and the sentences are in files of their own.
 
 mod eviction;
@@ -22,7 +24,7 @@ pub use sentence::{read_sentence, word};
 
 use crate::layout::Bound;
 use crate::problem::{
-    Refusal, MOST_BOUND, MOST_EDGES, MOST_ENTRIES, MOST_FUNCTIONS, MOST_LOOPS, MOST_SIZE, MOST_VERTICES, MOST_VISITS, REGIONS,
+    Refusal, MOST_BOUND, MOST_CHECK, MOST_EDGES, MOST_ENTRIES, MOST_FUNCTIONS, MOST_LOOPS, MOST_SIZE, MOST_VERTICES, MOST_VISITS, REGIONS,
 };
 use crate::run::Run;
 
@@ -37,6 +39,7 @@ pub struct Flat {
     loops: usize,
     size: [u32; MOST_FUNCTIONS],
     load: [u32; MOST_FUNCTIONS],
+    check: [u32; MOST_FUNCTIONS],
     function: [u8; MOST_VERTICES],
     cost: [u32; MOST_VERTICES],
     edge: [(u8, u8); MOST_EDGES],
@@ -58,6 +61,7 @@ impl Flat {
             loops: 0,
             size: [0; MOST_FUNCTIONS],
             load: [0; MOST_FUNCTIONS],
+            check: [0; MOST_FUNCTIONS],
             function: [0; MOST_VERTICES],
             cost: [0; MOST_VERTICES],
             edge: [(0, 0); MOST_EDGES],
@@ -112,15 +116,18 @@ fn below(count: usize) -> u128 {
 /// Read.
 pub fn read(file: &[u8]) -> Result<Flat, Refusal> {
     let at = &mut 0;
-    number(file, at, 1, 1)?;
+    let edition = number(file, at, 1, 2)?;
     let mut flat = Flat {
         scratchpad: number(file, at, 1, MOST_SIZE)?,
         functions: number(file, at, 1, MOST_FUNCTIONS as u32)? as usize,
         ..Flat::empty()
     };
-    for (size, load) in flat.size.iter_mut().zip(&mut flat.load).take(flat.functions) {
+    for ((size, load), check) in flat.size.iter_mut().zip(&mut flat.load).zip(&mut flat.check).take(flat.functions) {
         *size = number(file, at, 1, MOST_SIZE)?;
         *load = number(file, at, 0, MOST_SIZE)?;
+        if edition == 2 {
+            *check = number(file, at, 0, MOST_CHECK)?;
+        }
     }
     flat.vertices = number(file, at, 1, MOST_VERTICES as u32)? as usize;
     let last_function = flat.functions as u32 - 1;
@@ -370,6 +377,21 @@ fn judge_layout(flat: &Flat, layout: &[u8]) -> Result<([u8; MOST_FUNCTIONS], [u3
     Ok((region, members, need))
 }
 
+/// The check cost of each vertex that is entered, 0 of the others.
+fn checks(flat: &Flat) -> [u32; MOST_VERTICES] {
+    // all bits are set of those that are entered
+    let mut entered = [0u32; MOST_VERTICES];
+    entered[0] = u32::MAX;
+    for &(from, to) in &flat.edge[..flat.edges] {
+        let (from, to) = (usize::from(from) % MOST_VERTICES, usize::from(to) % MOST_VERTICES);
+        entered[to] |= u32::from(flat.function[from] != flat.function[to]).wrapping_neg();
+    }
+    for (check, &function) in entered.iter_mut().zip(&flat.function) {
+        *check &= flat.check[usize::from(function) % MOST_FUNCTIONS];
+    }
+    entered
+}
+
 /// Bound.
 pub fn bound(file: &[u8], layout: &[u8]) -> Result<Bound, Refusal> {
     let flat = read(file)?;
@@ -399,12 +421,13 @@ pub fn bound(file: &[u8], layout: &[u8]) -> Result<Bound, Refusal> {
         }
     }
 
+    let checks = checks(&flat);
     let mut contested = 0;
     let mut early = Early::default();
     let mut charge = [[0u64; 2]; MOST_VERTICES];
     for (vertex, charge) in charge.iter_mut().enumerate().take(flat.vertices) {
         let function = usize::from(flat.function[vertex]) % MOST_FUNCTIONS;
-        let (cost, load) = (u64::from(flat.cost[vertex]), u64::from(flat.load[function]));
+        let (cost, load) = (u64::from(flat.cost[vertex] + checks[vertex]), u64::from(flat.load[function]));
         *charge = [cost; 2];
         if arriving[vertex] as u32 & rivals[function] != 0 {
             contested += 1;
@@ -529,9 +552,11 @@ fn greatest(flat: &Flat, charge: &[Sums; MOST_VERTICES], entry: &[u64; MOST_LOOP
 
 /// Run. No step branches on what the walk does: only a refusal leaves the loop.
 pub fn run(file: &[u8], layout: &[u8], walk: &[u32]) -> Result<Run, Refusal> {
-    // what an edge does to the visits to its end in the present stay
+    // what an edge does to the visits to its end in the present stay, told by the sign
     const STARTS: i8 = 1;
-    const GOES_ON: i8 = -1;
+    const GOES_ON: i8 = -3;
+    // that it leads to another function: a bit that neither of the two has
+    const CHECKED: i8 = 2;
     let flat = read(file)?;
     let (region, _, _) = judge_layout(&flat, layout)?;
     if walk.len() > MOST_ENTRIES {
@@ -544,12 +569,13 @@ pub fn run(file: &[u8], layout: &[u8], walk: &[u32]) -> Result<Run, Refusal> {
     let mut edges = [0i8; MOST_VERTICES * MOST_VERTICES];
     for &(from, to) in &flat.edge[..flat.edges] {
         let returns = flat.around[usize::from(from)] & flat.headed[usize::from(to)] != 0;
-        edges[usize::from(from) * MOST_VERTICES + usize::from(to)] = if returns { GOES_ON } else { STARTS };
+        let checked = if flat.function[usize::from(from)] != flat.function[usize::from(to)] { CHECKED } else { 0 };
+        edges[usize::from(from) * MOST_VERTICES + usize::from(to)] = if returns { GOES_ON } else { STARTS } | checked;
     }
-    let mut stops = [Stop { cost: 0, load: 0, bound: u32::MAX, visits: 0, function: NONE, region: 0 }; MOST_VERTICES];
+    let mut stops = [Stop { costs: [0; 4], bound: u32::MAX, visits: 0, function: NONE, region: 0 }; MOST_VERTICES];
     for (stop, (&function, &cost)) in stops.iter_mut().zip(flat.function.iter().zip(&flat.cost)).take(flat.vertices) {
-        stop.cost = cost;
-        stop.load = flat.load[usize::from(function)];
+        let [load, check] = [flat.load[usize::from(function)], flat.check[usize::from(function)]];
+        stop.costs = [cost, cost + check, cost + check + load, 0];
         stop.function = function;
         stop.region = region[usize::from(function)];
     }
@@ -560,7 +586,7 @@ pub fn run(file: &[u8], layout: &[u8], walk: &[u32]) -> Result<Run, Refusal> {
     stops[0].visits = 1;
     let mut held = [NONE; REGIONS];
     held[usize::from(stops[0].region)] = stops[0].function;
-    let mut cycles = u64::from(stops[0].cost) + u64::from(stops[0].load);
+    let mut cycles = u64::from(stops[0].costs[2]);
     let mut loads = 1;
     let mut before = 0;
     for (position, &entry) in walk.iter().enumerate().skip(1) {
@@ -578,10 +604,11 @@ pub fn run(file: &[u8], layout: &[u8], walk: &[u32]) -> Result<Run, Refusal> {
             return Err(Refusal::at(16, position));
         }
         let place = &mut held[usize::from(stop.region) % REGIONS];
-        let loaded = u64::from(*place != stop.function);
+        let loaded = usize::from(*place != stop.function);
         *place = stop.function;
-        loads += loaded;
-        cycles += u64::from(stop.cost) + (u64::from(stop.load) & loaded.wrapping_neg());
+        loads += loaded as u64;
+        let checked = usize::from(edge & CHECKED != 0);
+        cycles += u64::from(stop.costs[(loaded + checked) % 4]);
         before = vertex;
     }
     if before != flat.vertices - 1 {
@@ -593,8 +620,9 @@ pub fn run(file: &[u8], layout: &[u8], walk: &[u32]) -> Result<Run, Refusal> {
 /// What a visit to a vertex looks at.
 #[derive(Clone, Copy)]
 struct Stop {
-    cost: u32,
-    load: u32,
+    /// What a visit costs as it is, with a check, and with a check and a load: what was visited just before is held, so a load is never without
+    /// a check. The last place is for the index alone.
+    costs: [u32; 4],
     /// The bound of the loop whose header the vertex is, or no bound.
     bound: u32,
     visits: u32,

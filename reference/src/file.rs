@@ -1,4 +1,5 @@
 //! The problem file: refusals 1 to 5 in reading, 3 and 4 in writing. Numbers may be padded in reading; what is written is the shortest file.
+//! Edition 2 has each function's check cost behind its load cost. Edition 1 has none: they are zero.
 
 use std::ops::RangeInclusive;
 
@@ -7,9 +8,12 @@ use crate::problem::*;
 /// The most bytes that a number may have.
 pub const MOST_BYTES: usize = 5;
 
-/// The longest file that is written, which has every number at its greatest. A size or a cost takes four bytes, a loop's bound and the
-/// counts of vertices and edges two, and any other number one.
-pub const LONGEST: usize = 1 + 4 + (1 + 8 * MOST_FUNCTIONS) + (2 + 5 * MOST_VERTICES) + (2 + 2 * MOST_EDGES) + (1 + 4 * MOST_LOOPS);
+/// The editions that are read.
+pub const EDITIONS: RangeInclusive<u32> = 1..=2;
+
+/// The longest file that is written, which has every number at its greatest. A size, a load cost or an own cost takes four bytes, a check cost
+/// three, a loop's bound and the counts of vertices and edges two, and any other number one.
+pub const LONGEST: usize = 1 + 4 + (1 + 11 * MOST_FUNCTIONS) + (2 + 5 * MOST_VERTICES) + (2 + 2 * MOST_EDGES) + (1 + 4 * MOST_LOOPS);
 
 /// A place in a file that is being read.
 struct Cursor<'a> {
@@ -46,14 +50,15 @@ impl Cursor<'_> {
 /// The problem that the fields of a file spell, before its graph is judged.
 pub fn parse(file: &[u8]) -> Result<Problem, Refusal> {
     let mut cursor = Cursor { file, at: 0 };
-    cursor.number(1..=1)?;
+    let edition = cursor.number(EDITIONS)?;
     let scratchpad = cursor.number(1..=MOST_SIZE)?;
 
     let mut functions = Vec::new();
     for _ in 0..cursor.number(1..=MOST_FUNCTIONS as u32)? {
         let size = cursor.number(1..=MOST_SIZE)?;
         let load = cursor.number(0..=MOST_SIZE)?;
-        functions.push(Function { size, load });
+        let check = if edition == 1 { 0 } else { cursor.number(0..=MOST_CHECK)? };
+        functions.push(Function { size, load, check });
     }
 
     let mut vertices = Vec::new();
@@ -133,13 +138,17 @@ impl Pen {
 /// wherever the count is in range.
 pub fn encode(problem: &Problem, counts: Counts) -> Result<Vec<u8>, Refusal> {
     let mut pen = Pen(Vec::new());
-    pen.number(1, 1..=1)?;
+    let edition = problem.edition();
+    pen.number(edition, EDITIONS)?;
     pen.number(problem.scratchpad, 1..=MOST_SIZE)?;
 
     pen.number(counts.functions, 1..=MOST_FUNCTIONS as u32)?;
     for function in &problem.functions {
         pen.number(function.size, 1..=MOST_SIZE)?;
         pen.number(function.load, 0..=MOST_SIZE)?;
+        if edition > 1 {
+            pen.number(function.check, 0..=MOST_CHECK)?;
+        }
     }
 
     pen.number(counts.vertices, 1..=MOST_VERTICES as u32)?;

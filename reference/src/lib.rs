@@ -10,6 +10,7 @@
 //! | early vertices | [`totals::early`]: a search for each function | [`totals::early_by_states`]: a search over what walks have visited |
 //! | the filled-in layout | [`layout::filled`]: the free regions are dealt out | [`layout::filled_in_turn`]: each function looks at all before it |
 //! | why a vertex pays its load | [`eviction::Searched`]: its interference set, then a search forwards over vertices and phases | [`eviction::AllWalks`]: every walk by length, looking back |
+//! | entered vertices | [`totals::entered`]: each vertex looks at all edges | [`fast`]: each edge marks its end |
 //! | a run | [`run::simulate`]: one pass | [`run::simulate_by_looking_back`]: each visit looks at all before it |
 //! | sentences | [`sentence::among`]: each form of sentence held to the text in turn | [`fast::read_sentence`]: its numbers first; sentences written that begin with a front |
 //! | one problem from a drawing | [`inline::recursively`]: each callee is inlined whole and moved | [`inline::by_splicing`]: one call at a time; [`stack::lawful_runs`]: every lawful run with a call stack |

@@ -12,6 +12,8 @@ pub const MOST_EDGES: usize = 512;
 pub const MOST_LOOPS: usize = 32;
 /// The greatest scratchpad size, function size, load cost and own cost.
 pub const MOST_SIZE: u32 = 16_777_215;
+/// The greatest check cost.
+pub const MOST_CHECK: u32 = 65_535;
 /// The greatest bound of a loop.
 pub const MOST_VISITS: u32 = 4_096;
 /// Regions are 0 to 31.
@@ -24,7 +26,7 @@ pub const MOST_ENTRIES: usize = 1_000_000;
 pub const MOST_SHOWN: usize = 256;
 
 /// The places of a record: the scratchpad size, and each count followed by all the places for its items.
-pub const FIELDS: usize = 1 + (1 + 2 * MOST_FUNCTIONS) + (1 + 2 * MOST_VERTICES) + (1 + 2 * MOST_EDGES) + (1 + 3 * MOST_LOOPS);
+pub const FIELDS: usize = 1 + (1 + 3 * MOST_FUNCTIONS) + (1 + 2 * MOST_VERTICES) + (1 + 2 * MOST_EDGES) + (1 + 3 * MOST_LOOPS);
 
 /// A refusal: its number, and the place.
 #[derive(Clone, Copy, Debug, PartialEq, Eq, Hash)]
@@ -49,13 +51,15 @@ impl fmt::Display for Refusal {
 
 impl std::error::Error for Refusal {}
 
-/// A function: its size in bytes, and what loading it costs in cycles.
+/// A function: its size in bytes, and what loading it and looking whether it is loaded cost in cycles.
 #[derive(Clone, Copy, Debug, PartialEq, Eq)]
 pub struct Function {
     /// Bytes.
     pub size: u32,
     /// Cycles.
     pub load: u32,
+    /// Cycles.
+    pub check: u32,
 }
 
 /// A vertex: the function that its code belongs to, and its own cost in cycles.
@@ -133,6 +137,15 @@ impl Problem {
         }
     }
 
+    /// The edition that is written: 1 has no check costs, so it is written where all are zero.
+    pub fn edition(&self) -> u32 {
+        if self.functions.iter().all(|function| function.check == 0) {
+            1
+        } else {
+            2
+        }
+    }
+
     /// The function of a vertex.
     pub fn function_of(&self, vertex: u32) -> u32 {
         self.vertices[vertex as usize].function
@@ -172,7 +185,7 @@ impl Problem {
         let counts = self.counts();
         part(&[self.scratchpad], 1);
         part(&[counts.functions], 1);
-        part(&self.functions.iter().flat_map(|f| [f.size, f.load]).collect::<Vec<_>>(), 2 * MOST_FUNCTIONS);
+        part(&self.functions.iter().flat_map(|f| [f.size, f.load, f.check]).collect::<Vec<_>>(), 3 * MOST_FUNCTIONS);
         part(&[counts.vertices], 1);
         part(&self.vertices.iter().flat_map(|v| [v.function, v.cost]).collect::<Vec<_>>(), 2 * MOST_VERTICES);
         part(&[counts.edges], 1);
@@ -193,7 +206,7 @@ pub fn from_fields(fields: &[u32; FIELDS]) -> (Problem, Counts) {
     };
     let scratchpad = take(1)[0];
     let functions = take(1)[0];
-    let function_places = take(2 * MOST_FUNCTIONS);
+    let function_places = take(3 * MOST_FUNCTIONS);
     let vertices = take(1)[0];
     let vertex_places = take(2 * MOST_VERTICES);
     let edges = take(1)[0];
@@ -202,7 +215,7 @@ pub fn from_fields(fields: &[u32; FIELDS]) -> (Problem, Counts) {
     let loop_places = take(3 * MOST_LOOPS);
     let problem = Problem {
         scratchpad,
-        functions: function_places.chunks(2).take(functions as usize).map(|f| Function { size: f[0], load: f[1] }).collect(),
+        functions: function_places.chunks(3).take(functions as usize).map(|f| Function { size: f[0], load: f[1], check: f[2] }).collect(),
         vertices: vertex_places.chunks(2).take(vertices as usize).map(|v| Vertex { function: v[0], cost: v[1] }).collect(),
         edges: edge_places.chunks(2).take(edges as usize).map(|e| Edge { from: e[0], to: e[1] }).collect(),
         loops: loop_places.chunks(3).take(loops as usize).map(|l| Loop { header: l[0], last: l[1], bound: l[2] }).collect(),

@@ -80,23 +80,29 @@ pub fn check_by_looking_back(problem: &Problem, walk: &[u32]) -> Result<(), Refu
     Ok(())
 }
 
-/// Runs a walk through the vertices of a problem, lawful or not, from empty regions.
+/// Runs a walk through the vertices of a problem, lawful or not, from empty regions. The check is paid at the first visit, and at each that comes
+/// from another function.
 pub fn simulate(problem: &Problem, regions: &[u8], walk: &[u32]) -> Run {
     let mut run = Run { cycles: 0, loads: 0, held: [255; REGIONS] };
+    let mut before = None;
     for &vertex in walk {
         let Vertex { function, cost } = problem.vertices[vertex as usize];
+        let Function { load, check, .. } = problem.functions[function as usize];
         let held = &mut run.held[usize::from(regions[function as usize])];
         run.cycles += u64::from(cost);
         if u32::from(*held) != function {
-            run.cycles += u64::from(problem.functions[function as usize].load);
+            run.cycles += u64::from(load);
             run.loads += 1;
             *held = function as u8;
+        }
+        if before.replace(function) != Some(function) {
+            run.cycles += u64::from(check);
         }
     }
     run
 }
 
-/// As [`simulate`], where each visit looks for the latest one in its region. For short walks.
+/// As [`simulate`], where each visit looks for the latest one in its region, and at the one before it. For short walks.
 pub fn simulate_by_looking_back(problem: &Problem, regions: &[u8], walk: &[u32]) -> Run {
     let region_of = |vertex: u32| regions[problem.function_of(vertex) as usize];
     // the function held in a region after some entries of the walk
@@ -107,12 +113,16 @@ pub fn simulate_by_looking_back(problem: &Problem, regions: &[u8], walk: &[u32])
     let loads = |&position: &usize| held(region_of(walk[position]), position) != Some(problem.function_of(walk[position]));
     let own: u64 = walk.iter().map(|&v| u64::from(problem.vertices[v as usize].cost)).sum();
     let loading: Vec<usize> = (0..walk.len()).filter(loads).collect();
-    let load_cost = |&position: &usize| u64::from(problem.functions[problem.function_of(walk[position]) as usize].load);
+    let function_at = |position: usize| problem.functions[problem.function_of(walk[position]) as usize];
+    let load_costs: u64 = loading.iter().map(|&position| u64::from(function_at(position).load)).sum();
+    let goes_on = |position: usize| position > 0 && problem.function_of(walk[position - 1]) == problem.function_of(walk[position]);
+    let checking = (0..walk.len()).filter(|&position| !goes_on(position));
+    let check_costs: u64 = checking.map(|position| u64::from(function_at(position).check)).sum();
     let mut after = [255; REGIONS];
     for (region, after) in after.iter_mut().enumerate() {
         if let Some(function) = held(region as u8, walk.len()) {
             *after = function as u8;
         }
     }
-    Run { cycles: own + loading.iter().map(load_cost).sum::<u64>(), loads: loading.len() as u64, held: after }
+    Run { cycles: own + load_costs + check_costs, loads: loading.len() as u64, held: after }
 }

@@ -105,9 +105,11 @@ pub fn number(drawing: &Drawing, sizes: &[u32], stack: &Stack) -> u32 {
     stack.iter().map(before).sum::<u32>() + calls
 }
 
-/// Runs a drawn program from empty regions.
+/// Runs a drawn program from empty regions. The check is paid at the first visit, and wherever another function runs than before: on each call
+/// and on each return.
 pub fn simulate(drawing: &Drawing, regions: &[u8], run: &[Stack]) -> Run {
     let mut result = Run { cycles: 0, loads: 0, held: [255; REGIONS] };
+    let mut before = None;
     for Activation { function, vertex, .. } in run.iter().map(running) {
         let drawn = &drawing.functions[*function as usize];
         let held = &mut result.held[usize::from(regions[*function as usize])];
@@ -116,6 +118,9 @@ pub fn simulate(drawing: &Drawing, regions: &[u8], run: &[Stack]) -> Run {
             result.cycles += u64::from(drawn.function.load);
             result.loads += 1;
             *held = *function as u8;
+        }
+        if before.replace(*function) != Some(*function) {
+            result.cycles += u64::from(drawn.function.check);
         }
     }
     result

@@ -5,13 +5,22 @@ use std::collections::{BTreeSet, HashSet};
 use crate::longest::{by_contraction, Charges};
 use crate::problem::*;
 
-/// The visit charge of each vertex: its own cost, plus its function's load cost if it is contested.
+/// Whether each vertex is entered: whether it is vertex 0, or some edge leads to it from a vertex of another function, be it one that no lawful
+/// walk can follow. Each vertex looks at all edges.
+pub fn entered(problem: &Problem) -> Vec<bool> {
+    let enters = |edge: &Edge, vertex: u32| edge.to == vertex && problem.function_of(edge.from) != problem.function_of(vertex);
+    (0..=problem.last_vertex()).map(|vertex| vertex == 0 || problem.edges.iter().any(|edge| enters(edge, vertex))).collect()
+}
+
+/// The visit charge of each vertex: its own cost, plus its function's load cost if it is contested, plus its function's check cost if it is
+/// entered.
 pub fn visit_charges(problem: &Problem, contested: &[bool]) -> Vec<u64> {
-    let charge = |(vertex, &contested): (&Vertex, &bool)| {
-        let load = if contested { problem.functions[vertex.function as usize].load } else { 0 };
-        u64::from(vertex.cost) + u64::from(load)
+    let charge = |((vertex, &contested), entered): ((&Vertex, &bool), bool)| {
+        let Function { load, check, .. } = problem.functions[vertex.function as usize];
+        let paid = |cost: u32, if_so: bool| if if_so { u64::from(cost) } else { 0 };
+        u64::from(vertex.cost) + paid(load, contested) + paid(check, entered)
     };
-    problem.vertices.iter().zip(contested).map(charge).collect()
+    problem.vertices.iter().zip(contested).zip(entered(problem)).map(charge).collect()
 }
 
 /// Whether each vertex is early: whether it is uncontested, and some walk reaches it with no earlier vertex of its function.

@@ -1,7 +1,7 @@
 //! The worked drawings D1 to D6, what drawings are refused for, and counts at the limits.
 
 use reference::drawing::Numbers;
-use reference::examples::{at_limits, chain, d1, d2, d3, d4, d5, d6, D4};
+use reference::examples::{at_limits, chain, d1, d2, d3, d4, d5, d6, drawn_with_checks, D4};
 use reference::file::LONGEST;
 use reference::inline::{by_splicing, judge, recursively, true_counts};
 use reference::stack::{lawful_runs, number, simulate};
@@ -103,6 +103,32 @@ fn d6_a_loop_that_ends_behind_its_call() {
     results_in(&d6(), "0:1 0:2 0:7 1:1 0:1; 0-1 1-1 1-2 2-3 3-4; 1 to 3 bound 4");
 }
 
+/// Each call and each return is checked, and the start.
+#[test]
+fn a_drawn_program_pays_its_checks() {
+    assert_eq!(bounded(&drawn_with_checks(d1(), &[2, 4]), &[0, 1]), (78 + 3 * 2 + 2 * 4, 1, 78 + 3 * 2 + 2 * 4));
+    assert_eq!(bounded(&drawn_with_checks(d2(), &[1, 10, 100]), &[0, 1, 2]), (33 + 2 + 20 + 100, 2, 33 + 2 + 20 + 100));
+    // vertex 1 is entered from the helper, and its first visit comes from vertex 0
+    assert_eq!(bounded(&drawn_with_checks(d4(), &[2, 4]), &[0, 1]), (37 + 5 * 2 + 3 * 4, 3, 37 + 4 * 2 + 3 * 4));
+}
+
+#[test]
+fn a_drawn_check_cost_is_carried_or_refused_with_its_function() {
+    let plain = file_of(&d4()).expect("lawful");
+    let file = file_of(&drawn_with_checks(d4(), &[0, 300])).expect("lawful");
+    assert_eq!(file, [&[0x02], &plain[1..5], &[0x00], &plain[5..7], &[0xAC, 0x02], &plain[7..]].concat());
+    assert_eq!(file_of(&drawn_with_checks(d4(), &[0, 0])), Ok(plain));
+    assert!(file_of(&drawn_with_checks(d4(), &[65_535; 2])).is_ok());
+    assert_eq!(refusal_of(&drawn_with_checks(d4(), &[0, 65_536])), refused(3, 1));
+    assert_eq!(refusal_of(&drawn_with_checks(d4(), &[65_536, u32::MAX])), refused(3, 0));
+    // before any rule of its graph, and behind those of a lower one
+    let mut wrong = drawn_with_checks(d4(), &[0, 65_536]);
+    wrong.functions[1].loops = vec![Loop { header: 0, last: 0, bound: 1 }];
+    assert_eq!(refusal_of(&wrong), refused(3, 1));
+    wrong.functions[0].edges.remove(2);
+    assert_eq!(refusal_of(&wrong), refused(6, 0));
+}
+
 fn drawing(functions: Vec<DrawnFunction>) -> Drawing {
     Drawing { scratchpad: 40, functions }
 }
@@ -111,7 +137,7 @@ fn drawing(functions: Vec<DrawnFunction>) -> Drawing {
 fn the_order_of_refusals() {
     let leaf = || chain(&[]);
     let lacks_its_way_back = DrawnFunction { loops: vec![Loop { header: 0, last: 1, bound: 2 }], ..chain(&[None, None]) };
-    let sizeless = DrawnFunction { function: Function { size: 0, load: 1 }, ..leaf() };
+    let sizeless = DrawnFunction { function: Function { size: 0, load: 1, check: 0 }, ..leaf() };
     let calls_at_its_end = |callee| DrawnFunction { vertices: vec![DrawnVertex { callee: Some(callee), cost: 1 }], ..leaf() };
 
     assert_eq!(refusal_of(&Drawing { scratchpad: 0, functions: vec![leaf()] }), refused(3, 0));

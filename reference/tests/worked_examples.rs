@@ -242,7 +242,7 @@ fn a_loop_without_a_way_out_is_no_part_of_the_second_total() {
     let edges = [(0, 1), (0, 2), (1, 1)].map(|(from, to)| Edge { from, to });
     let problem = Problem {
         scratchpad: 2,
-        functions: [5, 3].map(|load| Function { size: 1, load }).to_vec(),
+        functions: [5, 3].map(|load| Function { size: 1, load, check: 0 }).to_vec(),
         vertices: [0, 1, 0].map(|function| Vertex { function, cost: 1 }).to_vec(),
         edges: edges.to_vec(),
         loops: vec![Loop { header: 1, last: 1, bound: 9 }],

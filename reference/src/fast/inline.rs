@@ -8,10 +8,14 @@
 use super::{below, judge_edges, nest, Flat};
 use crate::drawing::{Numbers, GRAPH, NO_CALLEE};
 use crate::file::LONGEST;
-use crate::problem::{Refusal, MOST_EDGES, MOST_FUNCTIONS, MOST_LOOPS, MOST_SIZE, MOST_VERTICES, MOST_VISITS};
+use crate::problem::{Refusal, MOST_CHECK, MOST_EDGES, MOST_FUNCTIONS, MOST_LOOPS, MOST_SIZE, MOST_VERTICES, MOST_VISITS};
 
+/// Where the function's own numbers stand in a graph.
+const SIZE: usize = 0;
+const LOAD: usize = 1;
+const CHECK: usize = 2;
 /// Where the lists of a graph begin among its numbers, each behind its count.
-const VERTICES: usize = 3;
+const VERTICES: usize = CHECK + 2;
 const EDGES: usize = VERTICES + 2 * MOST_VERTICES + 1;
 const LOOPS: usize = EDGES + 2 * MOST_EDGES + 1;
 
@@ -48,7 +52,8 @@ fn within(number: u32, least: u32, greatest: u32) -> bool {
 fn judge(graph: Graph, functions: u32, flat: &mut Flat) -> Result<u32, u8> {
     let counts = [graph.0[VERTICES - 1], graph.0[EDGES - 1], graph.0[LOOPS - 1]];
     let fits = |fits: bool, number: u8| if fits { Ok(()) } else { Err(number) };
-    fits(within(graph.0[0], 1, MOST_SIZE) && graph.0[1] <= MOST_SIZE && within(counts[0], 1, MOST_VERTICES as u32), 3)?;
+    fits(within(graph.0[SIZE], 1, MOST_SIZE) && graph.0[LOAD] <= MOST_SIZE && graph.0[CHECK] <= MOST_CHECK, 3)?;
+    fits(within(counts[0], 1, MOST_VERTICES as u32), 3)?;
     flat.vertices = counts[0] as usize;
     let last_vertex = counts[0] - 1;
     let mut called = 0u32;
@@ -161,6 +166,22 @@ impl Pen {
         self.bytes[self.at] = value as u8;
         self.at += 1;
     }
+
+    /// What stands before the vertices. Check costs are written where one of them is not zero.
+    fn head(&mut self, numbers: &Numbers, functions: usize) {
+        let graphs = || (0..functions).map(|function| Graph::of(numbers, function));
+        let checks = graphs().any(|graph| graph.0[CHECK] > 0);
+        self.number(1 + u32::from(checks));
+        self.number(numbers[0]);
+        self.number(functions as u32);
+        for graph in graphs() {
+            self.number(graph.0[SIZE]);
+            self.number(graph.0[LOAD]);
+            if checks {
+                self.number(graph.0[CHECK]);
+            }
+        }
+    }
 }
 
 /// A copy of a function that is being followed.
@@ -254,14 +275,7 @@ pub fn inline(numbers: &Numbers, out: &mut [u8]) -> Result<usize, Refusal> {
 /// The file of the result.
 fn write(numbers: &Numbers, functions: usize, sizes: &[Size; MOST_FUNCTIONS]) -> Pen {
     let mut pen = Pen { bytes: [0; LONGEST], at: 0 };
-    pen.number(1);
-    pen.number(numbers[0]);
-    pen.number(functions as u32);
-    for function in 0..functions {
-        let graph = Graph::of(numbers, function);
-        pen.number(graph.0[0]);
-        pen.number(graph.0[1]);
-    }
+    pen.head(numbers, functions);
     pen.number(sizes[0].vertices);
     let mut rows = Rows { edges: [(0, 0); MOST_EDGES], edge_count: 0, loops: [(0, 0, 0); MOST_LOOPS], loop_count: 0 };
     let begun = |function: usize, first: u32| {
