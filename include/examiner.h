@@ -12,6 +12,13 @@
  * answers does not depend on it, but for the places of refusals 1 to 5. What is written is always the shortest file with the problem's
  * content.
  *
+ * Edition 2 of the file has each function's check cost behind its load cost: the cycles that looking whether it is loaded takes. Edition 1
+ * has none, and reads as if all were zero. The edition is no part of the problem: edition 2 is written exactly where a check cost is above
+ * zero, whichever edition was read. So an edition 1 file keeps its edition, and its results are what they were before there was another.
+ *
+ * THE BINARY INTERFACE CHANGED with check costs: `fields` has 1,477 numbers, where it had 1,445, and `drawing` 44,226, where it had 44,194.
+ * A program that hands over either must be compiled anew with this header.
+ *
  * RESULTS
  *   Each function returns 0, or the number of a refusal with its place in answer[0]. Places of `answer` that a result does not use
  *   keep their values. On a refusal all other lent memory keeps its values too: `out`, `words`, `held`, `text`, examiner_eviction's
@@ -81,6 +88,9 @@ extern "C" {
 #define EXAMINER_MOST_EDGES 512
 #define EXAMINER_MOST_LOOPS 32
 
+/* The greatest check cost of a function. */
+#define EXAMINER_MOST_CHECK 65535
+
 /* The greatest bound of a loop: the most visits to its header in one stay. */
 #define EXAMINER_MOST_VISITS 4096
 
@@ -92,7 +102,7 @@ extern "C" {
 #define EXAMINER_SCRATCHPAD 0
 #define EXAMINER_FUNCTION_COUNT (EXAMINER_SCRATCHPAD + 1)
 #define EXAMINER_FUNCTIONS (EXAMINER_FUNCTION_COUNT + 1)
-#define EXAMINER_VERTEX_COUNT (EXAMINER_FUNCTIONS + 2 * EXAMINER_MOST_FUNCTIONS)
+#define EXAMINER_VERTEX_COUNT (EXAMINER_FUNCTIONS + 3 * EXAMINER_MOST_FUNCTIONS)
 #define EXAMINER_VERTICES (EXAMINER_VERTEX_COUNT + 1)
 #define EXAMINER_EDGE_COUNT (EXAMINER_VERTICES + 2 * EXAMINER_MOST_VERTICES)
 #define EXAMINER_EDGES (EXAMINER_EDGE_COUNT + 1)
@@ -100,11 +110,14 @@ extern "C" {
 #define EXAMINER_LOOPS (EXAMINER_LOOP_COUNT + 1)
 #define EXAMINER_FIELDS (EXAMINER_LOOPS + 3 * EXAMINER_MOST_LOOPS)
 
+/* The library takes so many. */
+typedef char examiner_fields_are_those_of_the_library[EXAMINER_FIELDS == 1477 ? 1 : -1];
+
 /* In `held`: no function was loaded into the region. In `drawing`: the vertex calls no function. */
 #define EXAMINER_NONE 255
 
 /* The places of `drawing`. */
-#define EXAMINER_DRAWING 44194
+#define EXAMINER_DRAWING 44226
 
 /* The greatest bound that is given, and the greatest length of a walk that is run. */
 #define EXAMINER_MOST_BOUND UINT64_C(1000000000000000000)
@@ -125,8 +138,9 @@ extern "C" {
 uint32_t examiner_read(const uint8_t *file, size_t file_length, uint64_t *answer);
 
 /*
- * Write: writes the problem back into `out`, as the shortest file with its content. So a file with no padded number comes back byte for
- * byte, and a padded one may go into fewer bytes than it has. Bytes of `out` past what is written keep their values.
+ * Write: writes the problem back into `out`, as the shortest file with its content. So an edition 1 file with no padded number comes back
+ * byte for byte, and so does one of edition 2 with a check cost above zero; a padded file, and one of edition 2 with none above zero, may
+ * go into fewer bytes than it has. Bytes of `out` past what is written keep their values.
  *
  * On 0: answer[0] the bytes written.
  * Refusals: those of examiner_read, then 10 (bytes needed).
@@ -148,8 +162,9 @@ uint32_t examiner_interference(const uint8_t *file, size_t file_length, uint32_t
  * Bound: the worst-case time under a layout. layout[f] is the region of function f, 0 to 31. A layout may be shorter than the function
  * list: each function beyond its end gets, in turn, the lowest region that no earlier function has.
  *
- * A vertex is contested if the interference set of it and its function has a function in its function's region. Its visit charge is
- * its own cost, plus the function's load cost if contested. It is early if it is uncontested and some walk reaches it with no earlier
+ * A vertex is contested if the interference set of it and its function has a function in its function's region. It is entered if it is
+ * vertex 0, or some edge leads to it from a vertex of another function. Its visit charge is its own cost, plus the function's load cost
+ * if contested, plus the function's check cost if entered. It is early if it is uncontested and some walk reaches it with no earlier
  * vertex of its function. The bound is the smaller of two totals, and no lawful walk runs longer:
  *   - the largest sum of visit charges over all lawful walks, plus once the load cost of each function that has an early vertex;
  *   - the largest sum over all lawful walks of the visit charges, of the load cost too at each visit to an early vertex that no loop
@@ -164,8 +179,8 @@ uint32_t examiner_bound(const uint8_t *file, size_t file_length, const uint8_t *
 
 /*
  * Run: the simulated cycles of a walk under a layout, from empty regions. A visit costs its vertex's own cost, plus the load cost if
- * the vertex's function is not the one held in its region; that function is held there afterwards. walk[i] is the vertex visited at
- * position i.
+ * the vertex's function is not the one held in its region; that function is held there afterwards. The first visit, and each that comes
+ * from a vertex of another function, costs the function's check cost too. walk[i] is the vertex visited at position i.
  *
  * On 0: answer[0] the cycles, answer[1] the number of loads, held[r] the function held in region r afterwards, EXAMINER_NONE for none.
  * Refusals: those of examiner_read, then 11, 12, 13 as examiner_bound, then 17, then 15 or 16 at the first bad position; at one
@@ -198,7 +213,7 @@ uint32_t examiner_eviction(const uint8_t *file, size_t file_length, const uint8_
  *   place                     number
  *   EXAMINER_SCRATCHPAD       scratchpad size
  *   EXAMINER_FUNCTION_COUNT   number of functions
- *   EXAMINER_FUNCTIONS        EXAMINER_MOST_FUNCTIONS times: size, load cost
+ *   EXAMINER_FUNCTIONS        EXAMINER_MOST_FUNCTIONS times: size, load cost, check cost
  *   EXAMINER_VERTEX_COUNT     number of vertices
  *   EXAMINER_VERTICES         EXAMINER_MOST_VERTICES times: function, own cost
  *   EXAMINER_EDGE_COUNT       number of edges
@@ -209,6 +224,9 @@ uint32_t examiner_eviction(const uint8_t *file, size_t file_length, const uint8_
  * Each number has 32 bits, the most that a number of the file may have: inside the library a record's numbers have 64 bits, and a
  * record with a larger number cannot be given here. Places past a count are spare: they may have any value and are no part of the
  * problem. Bytes of `out` past the file keep their values.
+ *
+ * The file is of edition 2 exactly where a function below the count has a check cost above 0, be it above EXAMINER_MOST_CHECK: then places
+ * count the bytes of every check cost, and else of none.
  *
  * On 0: answer[0] the bytes written.
  * Refusals: 3 and 4 in file order, placed by the bytes it would write; then 6, 7, 8, 9; last 10 (bytes needed).
@@ -238,6 +256,7 @@ struct examiner_drawn_loop {
 struct examiner_graph {
     uint32_t size;
     uint32_t load;
+    uint32_t check;
     uint32_t vertex_count;
     struct examiner_drawn_vertex vertices[EXAMINER_MOST_VERTICES];
     uint32_t edge_count;

@@ -18,6 +18,8 @@ pub struct DrawnFunction {
     pub size: u32,
     /// The load cost in cycles, 0 to 16,777,215.
     pub load: u32,
+    /// The check cost in cycles, 0 to [`MOST_CHECK`](crate::MOST_CHECK).
+    pub check: u32,
     /// The vertices, 1 to 128. The last of them calls nothing.
     pub vertices: Vec<DrawnVertex>,
     /// The edges, 0 to 512, strictly ascending by (from, to).
@@ -38,13 +40,16 @@ pub struct DrawnVertex {
 /// What stands for no callee.
 const NONE: u32 = 255;
 
-/// The places of a graph: size, load cost, and each list behind its count.
-const GRAPH: usize = 2 + (1 + 2 * MOST_VERTICES) + (1 + 2 * MOST_EDGES) + (1 + 3 * MOST_LOOPS);
+/// The numbers of a graph before its lists: size, load cost and check cost.
+const AMOUNTS: usize = 3;
+
+/// The places of a graph: these, and each list behind its count.
+const GRAPH: usize = AMOUNTS + (1 + 2 * MOST_VERTICES) + (1 + 2 * MOST_EDGES) + (1 + 3 * MOST_LOOPS);
 
 /// The places of a drawing: scratchpad size, number of functions, and a graph for each that there may be.
 pub(crate) const DRAWING: usize = 2 + MOST_FUNCTIONS * GRAPH;
 
-const _: () = assert!(DRAWING == 44_194);
+const _: () = assert!(DRAWING == 44_226);
 
 impl Drawing {
     /// Its numbers, every spare place zero. Counts are as they are, also where items beyond the places are left out: such a count is
@@ -62,10 +67,10 @@ impl Drawing {
 
 impl DrawnFunction {
     fn fill(&self, graph: &mut [u32]) {
-        let (amounts, lists) = graph.split_at_mut(2);
+        let (amounts, lists) = graph.split_at_mut(AMOUNTS);
         let (vertices, lists) = lists.split_at_mut(1 + 2 * MOST_VERTICES);
         let (edges, loops) = lists.split_at_mut(1 + 2 * MOST_EDGES);
-        amounts.copy_from_slice(&[self.size, self.load]);
+        amounts.copy_from_slice(&[self.size, self.load, self.check]);
         list(vertices, &self.vertices, |vertex| [vertex.callee_number(), vertex.cost]);
         list(edges, &self.edges, |edge| [edge.from, edge.to]);
         list(loops, &self.loops, |l| [l.header, l.last, l.bound]);

@@ -10,6 +10,8 @@ pub const MOST_VERTICES: usize = 128;
 pub const MOST_EDGES: usize = 512;
 /// The most loops in a problem.
 pub const MOST_LOOPS: usize = 32;
+/// The greatest check cost of a function.
+pub const MOST_CHECK: u32 = 65_535;
 /// The greatest bound of a loop.
 pub const MOST_VISITS: u32 = 4_096;
 
@@ -21,6 +23,8 @@ pub struct Function {
     pub size: u32,
     /// The load cost in cycles, 0 to 16,777,215.
     pub load: u32,
+    /// The check cost in cycles, 0 to [`MOST_CHECK`]: what looking whether it is loaded takes.
+    pub check: u32,
 }
 
 /// A vertex.
@@ -60,6 +64,9 @@ pub struct Loop {
 /// Each number has 32 bits, the most that a number of the file may have: inside the library a record's numbers have 64 bits, and a
 /// record with a larger number cannot be given here. Only as many items of each list count as its number says. The places behind
 /// them are spare: they may have any value and are no part of the problem.
+///
+/// It is handed over as its 1,477 numbers. There were 1,445 before functions had check costs: a library from then takes no such record, nor
+/// does this one take a record from then.
 #[derive(Clone, Debug, PartialEq, Eq, Hash)]
 #[repr(C)]
 pub struct Fields {
@@ -95,7 +102,8 @@ pub(crate) const PLACES: usize = 1
     + (1 + numbers::<Edge>() * MOST_EDGES)
     + (1 + numbers::<Loop>() * MOST_LOOPS);
 
-// `Fields` is handed over as so many numbers.
+// `Fields` is handed over as so many numbers, those that the library takes.
+const _: () = assert!(PLACES == 1_477);
 const _: () = assert!(mem::size_of::<Fields>() == PLACES * mem::size_of::<u32>());
 const _: () = assert!(mem::align_of::<Fields>() == mem::align_of::<u32>());
 

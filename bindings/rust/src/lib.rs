@@ -1,7 +1,7 @@
 //! The overlay examiner for Rust programs.
 //!
 //! A controller runs code only from a small scratchpad, whose regions functions take turns in. A *problem* is a block graph with loop
-//! bounds, function sizes and load costs; a *layout* says which function goes to which region. The examiner names the interference,
+//! bounds, function sizes, load costs and check costs; a *layout* says which function goes to which region. The examiner names the interference,
 //! prices the reloads and gives a worst-case time, or it refuses with a number and a place.
 //!
 //! An operation on a problem takes it as its file, and judges that first; [`inline`] makes such a file from a program drawn function by
@@ -11,6 +11,12 @@
 //! A number of a file may be padded with groups of zero, up to five bytes: 5 is 05, or 85 00, or 85 80 80 80 00 (hexadecimal). What an operation
 //! answers does not depend on it, but for the places of [`EndsEarly`](RefusalKind::EndsEarly) to [`LeftOver`](RefusalKind::LeftOver). What is
 //! written is always the shortest file with the problem's content.
+//!
+//! Edition 2 of the file has each function's check cost behind its load cost; edition 1 has none, and reads as if all were zero. The edition is
+//! no part of the problem: edition 2 is written exactly where a check cost is above zero, whichever edition was read.
+//!
+//! With check costs the binary interface changed: [`Fields`] and [`Drawing`] are handed over as more numbers than before. The wrapper and the
+//! library must both be from before that, or both from after it.
 //!
 //! ```
 //! // one function of 8 bytes with load cost 5, one vertex of cost 10, scratchpad 8
@@ -34,7 +40,7 @@ mod sentence;
 
 pub use drawing::{Drawing, DrawnFunction, DrawnVertex};
 pub use eviction::{Eviction, Reason, MOST_SHOWN};
-pub use fields::{Edge, Fields, Function, Loop, Vertex, MOST_EDGES, MOST_FUNCTIONS, MOST_LOOPS, MOST_VERTICES, MOST_VISITS};
+pub use fields::{Edge, Fields, Function, Loop, Vertex, MOST_CHECK, MOST_EDGES, MOST_FUNCTIONS, MOST_LOOPS, MOST_VERTICES, MOST_VISITS};
 pub use refusal::{Refusal, RefusalKind};
 pub use sentence::{read_sentence, word, Remark, MOST_SENTENCE};
 
@@ -99,9 +105,10 @@ pub fn read(file: &[u8]) -> Result<Counts, Refusal> {
     Ok(Counts { functions, vertices, edges, loops })
 }
 
-/// Writes the problem that `file` holds into `out`, as the shortest file with its content, and gives the number of bytes written. So a file
-/// with no padded number comes back byte for byte, and a padded one may go into fewer bytes than it has. Bytes of `out` past what is written
-/// keep their values, and all of them on a refusal.
+/// Writes the problem that `file` holds into `out`, as the shortest file with its content, and gives the number of bytes written. So an
+/// edition 1 file with no padded number comes back byte for byte, and so does one of edition 2 with a check cost above zero; a padded file,
+/// and one of edition 2 with none above zero, may go into fewer bytes than it has. Bytes of `out` past what is written keep their values, and
+/// all of them on a refusal.
 ///
 /// ```
 /// use examiner::{write, Refusal, RefusalKind};
@@ -112,6 +119,11 @@ pub fn read(file: &[u8]) -> Result<Counts, Refusal> {
 /// assert_eq!(write(&padded, &mut out)?, 10);
 /// assert_eq!(out, [0x01, 0x08, 0x01, 0x08, 0x05, 0x01, 0x00, 0x0A, 0x00, 0x00]);
 /// assert_eq!(write(&padded, &mut out[..9]), Err(Refusal { number: RefusalKind::BufferTooShort, place: 10 }));
+///
+/// // the same problem in edition 2, with check cost 0: it comes back as edition 1
+/// let with_no_check = [0x02, 0x08, 0x01, 0x08, 0x05, 0x00, 0x01, 0x00, 0x0A, 0x00, 0x00];
+/// assert_eq!(write(&with_no_check, &mut out)?, 10);
+/// assert_eq!(out[0], 0x01);
 /// # Ok::<(), examiner::Refusal>(())
 /// ```
 ///
@@ -126,6 +138,8 @@ pub fn write(file: &[u8], out: &mut [u8]) -> Result<usize, Refusal> {
 
 /// Writes a record as a problem file into `out`, and gives the number of bytes written. The record need not be lawful. Bytes of `out`
 /// past the file keep their values, and all of them on a refusal.
+///
+/// The file is of edition 2 exactly where a function of the record has a check cost above zero, be it out of range.
 ///
 /// # Errors
 /// [`OutOfRange`](RefusalKind::OutOfRange) and [`NotAscending`](RefusalKind::NotAscending) in file order, placed by the bytes that would
@@ -155,14 +169,15 @@ pub fn write_fields(fields: &Fields, out: &mut [u8]) -> Result<usize, Refusal> {
 /// let caller = DrawnFunction {
 ///     size: 1,
 ///     load: 5,
+///     check: 0,
 ///     vertices: vec![vertex(None, 1), vertex(Some(1), 2), vertex(None, 1)],
 ///     edges: vec![Edge { from: 0, to: 1 }, Edge { from: 1, to: 1 }, Edge { from: 1, to: 2 }],
 ///     loops: vec![Loop { header: 1, last: 1, bound: 3 }],
 /// };
-/// let helper = DrawnFunction { size: 1, load: 3, vertices: vec![vertex(None, 7)], edges: vec![], loops: vec![] };
+/// let helper = DrawnFunction { size: 1, load: 3, check: 0, vertices: vec![vertex(None, 7)], edges: vec![], loops: vec![] };
 /// let mut drawing = Drawing { scratchpad: 2, functions: vec![caller, helper] };
 ///
-/// let mut out = [0; 2_059];
+/// let mut out = [0; 2_155];
 /// let written = inline(&drawing, &mut out)?;
 /// let problem = &out[..written];
 /// // vertices 0 and 1 of the caller, the helper's copy, vertex 2 of the caller; the loop holds the copy
@@ -211,8 +226,9 @@ pub fn interference(file: &[u8], words: &mut [u32]) -> Result<usize, Refusal> {
 /// Prices a layout: `layout[f]` is the region of function f, 0 to 31. A layout may be shorter than the function list: each function beyond
 /// its end gets, in turn, the lowest region that no earlier function has.
 ///
-/// A visit to a vertex is charged its own cost, and its function's load cost if it is contested: if another function may have pushed its
-/// function out of the region. A vertex is early if it is not contested and some walk reaches it with no earlier vertex of its function. The
+/// A visit to a vertex is charged its own cost, its function's load cost if it is contested: if another function may have pushed its function
+/// out of the region, and its function's check cost if it is entered: if it is vertex 0, or some edge leads to it from a vertex of another
+/// function. A vertex is early if it is not contested and some walk reaches it with no earlier vertex of its function. The
 /// bound is the smaller of two totals:
 /// - the largest sum of visit charges over all lawful walks, plus once the load cost of each function that has an early vertex;
 /// - the largest sum over all lawful walks of the visit charges, of the load cost too at each visit to an early vertex that no loop holds,
@@ -222,16 +238,22 @@ pub fn interference(file: &[u8], words: &mut [u32]) -> Result<usize, Refusal> {
 /// use examiner::{bound, write_fields, Edge, Fields, Function, Vertex};
 ///
 /// // vertex 0 goes on to a vertex of function 1 or to one of function 2: a walk loads one of the two
-/// let functions = [5, 3, 4].map(|load| Function { size: 1, load });
+/// let functions = [5, 3, 4].map(|load| Function { size: 1, load, check: 0 });
 /// let vertices = [0, 1, 2, 0].map(|function| Vertex { function, cost: 1 });
 /// let edges = [(0, 1), (0, 2), (1, 3), (2, 3)].map(|(from, to)| Edge { from, to });
 /// let fields = Fields::new(3, &functions, &vertices, &edges, &[]).expect("there are places for all");
-/// let mut file = [0; 2_059];
+/// let mut file = [0; 2_155];
 /// let written = write_fields(&fields, &mut file)?;
 ///
 /// let priced = bound(&file[..written], &[0, 1, 2])?;
 /// // three visits, and the loads of functions 0 and 2
 /// assert_eq!((priced.bound, priced.first_loads), (12, 9));
+///
+/// // each visit comes from another function, or is the first: with check cost 2 it costs 2 cycles more
+/// let functions = functions.map(|function| Function { check: 2, ..function });
+/// let checked = Fields::new(3, &functions, &vertices, &edges, &[]).expect("there are places for all");
+/// let written = write_fields(&checked, &mut file)?;
+/// assert_eq!(bound(&file[..written], &[0, 1, 2])?.bound, 12 + 3 * 2);
 /// # Ok::<(), examiner::Refusal>(())
 /// ```
 ///
@@ -246,7 +268,9 @@ pub fn bound(file: &[u8], layout: &[u8]) -> Result<Bound, Refusal> {
     Ok(Bound { need, contested, first_loads, bound })
 }
 
-/// Runs a walk under a layout, from empty regions: `walk[i]` is the vertex visited at position i.
+/// Runs a walk under a layout, from empty regions: `walk[i]` is the vertex visited at position i. A visit costs its vertex's own cost; the
+/// function's load cost, if the function is not held in its region; and its check cost, if it is the first visit or the one before was to a
+/// vertex of another function.
 ///
 /// # Errors
 /// As `bound` but for [`BoundTooLarge`](RefusalKind::BoundTooLarge); then [`WalkTooLong`](RefusalKind::WalkTooLong); then
@@ -282,11 +306,11 @@ pub fn run(file: &[u8], layout: &[u8], walk: &[u32]) -> Result<Run, Refusal> {
 /// use examiner::{eviction, write_fields, Edge, Fields, Function, Reason, RefusalKind, Vertex, MOST_SHOWN};
 ///
 /// // seven vertices in a chain, of three functions; functions 1 and 2 take turns in region 1
-/// let functions = [(8, 5), (4, 3), (6, 4)].map(|(size, load)| Function { size, load });
+/// let functions = [(8, 5), (4, 3), (6, 4)].map(|(size, load)| Function { size, load, check: 0 });
 /// let vertices = [0, 1, 0, 2, 0, 1, 0].map(|function| Vertex { function, cost: 10 });
 /// let edges = [0, 1, 2, 3, 4, 5].map(|from| Edge { from, to: from + 1 });
 /// let fields = Fields::new(14, &functions, &vertices, &edges, &[]).expect("there are places for all");
-/// let mut file = [0; 2_059];
+/// let mut file = [0; 2_155];
 /// let written = write_fields(&fields, &mut file)?;
 /// let (problem, layout) = (&file[..written], [0, 1, 1]);
 ///
