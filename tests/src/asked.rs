@@ -3,8 +3,8 @@
 
 use examiner::raw;
 use reference::fast;
-use reference::problem::{Problem, Refusal};
-use reference::{Drawing, Eviction, Reason, Remark, Run};
+use reference::problem::{Problem, Refusal, FIELDS};
+use reference::{Bound, Drawing, Eviction, Reason, Remark, Run};
 
 use crate::sentences::{named_reason, named_refusal, plain_remark};
 
@@ -48,13 +48,18 @@ pub fn write(file: &[u8], length: usize) -> Said<Vec<u8>> {
 
 /// Write on the record of a problem, into 99 bytes: how many are written.
 pub fn write_fields(problem: &Problem) -> Said<usize> {
-    let fields = problem.to_fields();
-    let (mut out, mut answer) = ([0; 99], [0; 4]);
+    write_record(&problem.to_fields()).map(|bytes| bytes.len())
+}
+
+/// Write on a record, into 99 bytes: those written.
+pub fn write_record(fields: &[u32; FIELDS]) -> Said<Vec<u8>> {
+    let (mut out, mut out_of_reference, mut answer) = ([0; 99], [0; 99], [0; 4]);
     // SAFETY: a record has a place for each field; it, `out` and `answer` are valid for the call, and apart.
     let number = unsafe { raw::examiner_write_fields(fields.as_ptr(), out.as_mut_ptr(), out.len(), answer.as_mut_ptr()) };
     let said = told(number, answer);
-    assert_eq!(by_reference(reference::write_fields(&fields, &mut [0; 99])), said);
-    said
+    assert_eq!(by_reference(reference::write_fields(fields, &mut out_of_reference)), said);
+    assert_eq!(out_of_reference, out);
+    said.map(|bytes| out[..bytes].to_vec())
 }
 
 /// Interference into so many words: how many are filled.
@@ -70,9 +75,15 @@ pub fn interference(file: &[u8], length: usize) -> Said<usize> {
 
 /// Bound: the bound.
 pub fn bound(file: &[u8], layout: &[u8]) -> Said<u64> {
-    let said = by_library(examiner::bound(file, layout)).map(|bound| bound.bound);
-    assert_eq!(by_reference(reference::bound(file, layout)).map(|bound| bound.bound), said, "{file:02X?}");
-    assert_eq!(by_reference(fast::bound(file, layout)).map(|bound| bound.bound), said, "{file:02X?}");
+    priced(file, layout).map(|priced| priced.bound)
+}
+
+/// Bound: all that it gives.
+pub fn priced(file: &[u8], layout: &[u8]) -> Said<Bound> {
+    let plain = |examiner::Bound { need, contested, first_loads, bound }| Bound { need, contested, first_loads, bound };
+    let said = by_library(examiner::bound(file, layout)).map(plain);
+    assert_eq!(by_reference(reference::bound(file, layout)), said, "{file:02X?}");
+    assert_eq!(by_reference(fast::bound(file, layout)), said, "{file:02X?}");
     said
 }
 

@@ -6,11 +6,17 @@ use reference::problem::*;
 use crate::padding::padded;
 use crate::random::Random;
 
-/// The numbers of a file in order.
+/// The numbers of a problem's file in order, in the edition that is written.
 pub fn numbers(problem: &Problem) -> Vec<u32> {
+    numbers_in(problem.edition(), problem)
+}
+
+/// The numbers of a problem in an edition: in 1 without its check costs, whatever they are.
+pub fn numbers_in(edition: u32, problem: &Problem) -> Vec<u32> {
     let counts = problem.counts();
-    let mut numbers = vec![1, problem.scratchpad, counts.functions];
-    numbers.extend(problem.functions.iter().flat_map(|f| [f.size, f.load]));
+    let mut numbers = vec![edition, problem.scratchpad, counts.functions];
+    let width = function_width(edition);
+    numbers.extend(problem.functions.iter().flat_map(|f| [f.size, f.load, f.check].into_iter().take(width)));
     numbers.push(counts.vertices);
     numbers.extend(problem.vertices.iter().flat_map(|v| [v.function, v.cost]));
     numbers.push(counts.edges);
@@ -18,6 +24,15 @@ pub fn numbers(problem: &Problem) -> Vec<u32> {
     numbers.push(counts.loops);
     numbers.extend(problem.loops.iter().flat_map(|l| [l.header, l.last, l.bound]));
     numbers
+}
+
+/// The numbers of a function in an edition.
+pub fn function_width(edition: u32) -> usize {
+    if edition == 1 {
+        2
+    } else {
+        3
+    }
 }
 
 /// The file of these numbers, whatever they are.
@@ -62,7 +77,7 @@ pub const ODD_VALUES: [u32; 27] = [
 ];
 
 /// What [`damaged_file`] does to a file.
-pub const FILE_DAMAGES: u32 = 10;
+pub const FILE_DAMAGES: u32 = 11;
 
 /// A file with one thing done to its bytes, by number below [`FILE_DAMAGES`]. What comes out need not be refused: padding is no fault.
 pub fn damaged_file(random: &mut Random, problem: &Problem, damage: u32) -> Vec<u8> {
@@ -102,6 +117,7 @@ pub fn damaged_file(random: &mut Random, problem: &Problem, damage: u32) -> Vec<
             file.splice(start..start + length, five);
         }
         8 => file = padded(random, &numbers),
+        9 => file = damaged_edition(random, problem),
         // the file ends inside a number
         _ => {
             file.truncate(start);
@@ -110,6 +126,34 @@ pub fn damaged_file(random: &mut Random, problem: &Problem, damage: u32) -> Vec<
         }
     }
     file
+}
+
+/// A file in the other edition, with every check cost zero or without those that there are; one with its edition alone changed; or one with a
+/// check cost changed.
+fn damaged_edition(random: &mut Random, problem: &Problem) -> Vec<u8> {
+    match random.count(0..=2) {
+        0 => spelled(&numbers_in(3 - problem.edition(), problem)),
+        1 => {
+            let mut numbers = numbers(problem);
+            numbers[0] = random.field(0..=3);
+            spelled(&numbers)
+        }
+        _ => damaged_check(random, problem),
+    }
+}
+
+/// A file of edition 2 with one of its check costs at the end of its range or past it, or spelt in another way.
+fn damaged_check(random: &mut Random, problem: &Problem) -> Vec<u8> {
+    let mut numbers = numbers_in(2, problem);
+    let at = check_place(random.count(0..=problem.functions.len() - 1));
+    numbers[at] = *random.pick(&[0, MOST_CHECK - 1, MOST_CHECK, MOST_CHECK + 1, u32::MAX]);
+    let bytes = random.count(1..=MOST_BYTES + 1);
+    [spelled(&numbers[..at]), spell_in(numbers[at], bytes), spelled(&numbers[at + 1..])].concat()
+}
+
+/// Which number of an edition 2 file is the check cost of a function.
+pub fn check_place(function: usize) -> usize {
+    3 + function_width(2) * function + 2
 }
 
 /// What [`damaged_problem`] does to a problem.
@@ -187,7 +231,7 @@ pub fn damaged_problem(random: &mut Random, problem: &Problem, damage: u32) -> P
 }
 
 /// How many items each list of a record has room for, and how many numbers an item has.
-const ITEMS: [(usize, usize); 4] = [(MOST_FUNCTIONS, 2), (MOST_VERTICES, 2), (MOST_EDGES, 2), (MOST_LOOPS, 3)];
+const ITEMS: [(usize, usize); 4] = [(MOST_FUNCTIONS, 3), (MOST_VERTICES, 2), (MOST_EDGES, 2), (MOST_LOOPS, 3)];
 
 /// Where the counts stand in a record: behind the scratchpad size, each before its list.
 pub const COUNT_PLACES: [usize; 4] = {

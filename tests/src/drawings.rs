@@ -6,7 +6,7 @@ use reference::problem::*;
 use reference::stack::{self, Stack};
 
 use crate::damage::{damaged_problem, ODD_VALUES, PROBLEM_DAMAGES};
-use crate::problems::{self, Amounts, Plan};
+use crate::problems::{self, Amounts, Checks, Plan};
 use crate::random::Random;
 use crate::walks::distances;
 
@@ -30,6 +30,8 @@ pub struct DrawingPlan {
     pub functions: usize,
     /// What a graph may look like. Its vertices, edges and loops are the most that a graph is to have.
     pub graph: Plan,
+    /// Which functions have a check cost; those of a graph alone play no part.
+    pub checks: Checks,
     /// Who calls whom.
     pub shape: Shape,
     /// How many vertices in a hundred call; vertex 0, headers and last vertices of loops do so more often.
@@ -52,10 +54,12 @@ impl DrawingPlan {
                 bounds: random.pick(&bounds).clone(),
                 costs: *random.pick(&[Amounts::Small, Amounts::Small, Amounts::Any, Amounts::Ends]),
                 sizes: Amounts::Small,
+                checks: Checks::Nowhere,
                 dead: if random.percent(10) { 30 } else { 0 },
                 deep: random.percent(15),
                 around: random.percent(15),
             },
+            checks: Checks::random(random),
             shape: *random.pick(&[Shape::Any, Shape::Any, Shape::Deep, Shape::Wide, Shape::Shared]),
             calls: *random.pick(&[10, 25, 50, 80]),
             fits: random.percent(85),
@@ -123,11 +127,18 @@ pub fn lawful(random: &mut Random, plan: &DrawingPlan) -> Drawing {
             }
         }
     }
+    deal_checks(random, plan, &mut functions);
     let mut drawing = Drawing { scratchpad: MOST_SIZE, functions };
     while plan.fits && !fits(&drawing) {
         take_back_a_call(random, &mut drawing);
     }
     drawing
+}
+
+fn deal_checks(random: &mut Random, plan: &DrawingPlan, functions: &mut [DrawnFunction]) {
+    let mut dealt: Vec<Function> = functions.iter().map(|drawn| drawn.function).collect();
+    plan.checks.deal(random, plan.graph.costs, &mut dealt);
+    functions.iter_mut().zip(dealt).for_each(|(drawn, function)| drawn.function = function);
 }
 
 fn take_back_a_call(random: &mut Random, drawing: &mut Drawing) {
@@ -138,7 +149,7 @@ fn take_back_a_call(random: &mut Random, drawing: &mut Drawing) {
 }
 
 /// What [`damaged`] does to a drawing.
-pub const DRAWING_DAMAGES: u32 = 6;
+pub const DRAWING_DAMAGES: u32 = 7;
 
 /// A drawing with one thing done to it, by number below [`DRAWING_DAMAGES`]. What comes out need not be unlawful.
 pub fn damaged(random: &mut Random, drawing: &Drawing, damage: u32) -> Drawing {
@@ -157,6 +168,8 @@ pub fn damaged(random: &mut Random, drawing: &Drawing, damage: u32) -> Drawing {
         // a callee that there is none of
         2 => drawn.vertices[vertex].callee = Some(functions as u32 + random.field(0..=2)),
         3 => drawn.vertices[vertex].callee = Some(*random.pick(&[31, 32, 33, 254, 256, 511, 65_535, u32::MAX])),
+        // a check cost at the end of its range or past it
+        4 => drawn.function.check = *random.pick(&[0, MOST_CHECK, MOST_CHECK + 1, 70_000, u32::MAX]),
         // a graph that breaks a rule
         _ => {
             let damage = random.field(0..=PROBLEM_DAMAGES - 1);
@@ -168,11 +181,15 @@ pub fn damaged(random: &mut Random, drawing: &Drawing, damage: u32) -> Drawing {
     drawing
 }
 
+/// The numbers of a graph before its lists: size, load cost and check cost.
+const AMOUNTS: usize = 3;
+
 /// The places of a graph's counts, with the numbers of an item and the most items.
 const LISTS: [(usize, usize, usize); 3] = {
-    let edges = 2 + 1 + 2 * MOST_VERTICES;
+    let vertices = AMOUNTS;
+    let edges = vertices + 1 + 2 * MOST_VERTICES;
     let loops = edges + 1 + 2 * MOST_EDGES;
-    [(2, 2, MOST_VERTICES), (edges, 2, MOST_EDGES), (loops, 3, MOST_LOOPS)]
+    [(vertices, 2, MOST_VERTICES), (edges, 2, MOST_EDGES), (loops, 3, MOST_LOOPS)]
 };
 
 /// The places of a drawing that are not spare: those of its functions, up to each count.
@@ -180,7 +197,7 @@ pub fn counted_places(numbers: &Numbers) -> Vec<usize> {
     let mut places = vec![0, 1];
     for function in 0..(numbers[1] as usize).min(MOST_FUNCTIONS) {
         let graph = 2 + GRAPH * function;
-        places.extend([graph, graph + 1]);
+        places.extend(graph..graph + AMOUNTS);
         for (count, width, most) in LISTS {
             let used = width * (numbers[graph + count] as usize).min(most);
             places.extend(graph + count..=graph + count + used);
@@ -200,14 +217,14 @@ pub fn fill_spare_places(random: &mut Random, numbers: &mut Numbers) {
     }
 }
 
-/// Changes one number that counts in a drawing: scratchpad, a count, a size or load cost, or a number of an item.
+/// Changes one number that counts in a drawing: scratchpad, a count, a size, a load cost or check cost, or a number of an item.
 pub fn damage_numbers(random: &mut Random, numbers: &mut Numbers) {
     let functions = (numbers[1] as usize).clamp(1, MOST_FUNCTIONS);
     let graph = 2 + GRAPH * random.count(0..=functions - 1);
     let (count, width, most) = *random.pick(&LISTS);
     let place = match random.count(0..=9) {
         0 => random.count(0..=1),
-        1 => graph + random.count(0..=1),
+        1 => graph + random.count(0..=AMOUNTS - 1),
         2 | 3 => graph + count,
         _ => graph + count + random.count(0..=width * (numbers[graph + count] as usize).min(most)),
     };

@@ -2,6 +2,7 @@
 //! like, and operations asked of both implementations.
 
 pub mod asked;
+pub mod checks;
 pub mod damage;
 pub mod drawings;
 pub mod evictions;

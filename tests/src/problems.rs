@@ -1,6 +1,7 @@
 //! Random problems that pass every check of Read.
 
 use std::collections::BTreeSet;
+use std::ops::RangeInclusive;
 
 use reference::problem::*;
 
@@ -15,6 +16,41 @@ pub enum Amounts {
     Any,
     /// The least and the greatest value of the range.
     Ends,
+}
+
+/// Which functions have a check cost above zero.
+#[derive(Clone, Copy, Debug, PartialEq, Eq)]
+pub enum Checks {
+    /// None: the problem is written as edition 1.
+    Nowhere,
+    /// About every second one.
+    Somewhere,
+    /// All.
+    Everywhere,
+    /// One, which has the greatest.
+    OneGreatest,
+}
+
+impl Checks {
+    /// Any of these, every third time none.
+    pub fn random(random: &mut Random) -> Checks {
+        *random.pick(&[Checks::Nowhere, Checks::Nowhere, Checks::Somewhere, Checks::Somewhere, Checks::Everywhere, Checks::OneGreatest])
+    }
+
+    /// Gives functions their check costs.
+    pub fn deal(self, random: &mut Random, of: Amounts, functions: &mut [Function]) {
+        if self == Checks::OneGreatest {
+            let one = random.count(0..=functions.len() - 1);
+            functions[one].check = MOST_CHECK;
+            return;
+        }
+        for function in functions {
+            // nothing is drawn where there are none, so that a seed gives the problem that it gave before there were check costs
+            if self == Checks::Everywhere || self == Checks::Somewhere && random.percent(50) {
+                function.check = amount(random, 1..=MOST_CHECK, of);
+            }
+        }
+    }
 }
 
 /// What a problem should look like.
@@ -34,6 +70,8 @@ pub struct Plan {
     pub costs: Amounts,
     /// Function sizes.
     pub sizes: Amounts,
+    /// Check costs, which are drawn as the other costs are.
+    pub checks: Checks,
     /// How many loops in a hundred are to have no way out.
     pub dead: u64,
     /// Loops that hold one another, as deep as there are loops.
@@ -56,6 +94,7 @@ impl Plan {
             bounds: random.pick(&bounds).clone(),
             costs: *random.pick(&amounts),
             sizes: Amounts::Small,
+            checks: Checks::random(random),
             dead: if random.percent(30) { 40 } else { 0 },
             deep: random.percent(15),
             around: random.percent(10),
@@ -82,6 +121,7 @@ impl Plan {
             bounds: random.pick(&bounds).clone(),
             costs: *random.pick(&[Amounts::Small, Amounts::Any, Amounts::Ends]),
             sizes: *random.pick(&[Amounts::Small, Amounts::Small, Amounts::Any, Amounts::Ends]),
+            checks: Checks::random(random),
             dead: if random.percent(30) { 30 } else { 0 },
             deep: random.percent(20),
             around: random.percent(20),
@@ -201,11 +241,12 @@ impl Nest {
     }
 }
 
-fn amount(random: &mut Random, least: u32, of: Amounts) -> u32 {
+fn amount(random: &mut Random, range: RangeInclusive<u32>, of: Amounts) -> u32 {
+    let (least, greatest) = (*range.start(), *range.end());
     match of {
         Amounts::Small => random.field(least..=20),
-        Amounts::Any => random.field(least..=MOST_SIZE),
-        Amounts::Ends => *random.pick(&[least, MOST_SIZE]),
+        Amounts::Any => random.field(range),
+        Amounts::Ends => *random.pick(&[least, greatest]),
     }
 }
 
@@ -215,13 +256,17 @@ pub fn lawful(random: &mut Random, plan: &Plan) -> Problem {
     let edges = nest.random_edges(random, plan.edges);
     // now and then few of the functions are used, so that others have no vertex
     let used = if random.percent(20) { random.count(1..=plan.functions) } else { plan.functions };
-    Problem {
+    let mut problem = Problem {
         scratchpad: MOST_SIZE,
         functions: (0..plan.functions)
-            .map(|_| Function { size: amount(random, 1, plan.sizes), load: amount(random, 0, plan.costs) })
+            .map(|_| Function {
+                size: amount(random, 1..=MOST_SIZE, plan.sizes),
+                load: amount(random, 0..=MOST_SIZE, plan.costs),
+                check: 0,
+            })
             .collect(),
         vertices: (0..plan.vertices)
-            .map(|_| Vertex { function: random.count(0..=used - 1) as u32, cost: amount(random, 0, plan.costs) })
+            .map(|_| Vertex { function: random.count(0..=used - 1) as u32, cost: amount(random, 0..=MOST_SIZE, plan.costs) })
             .collect(),
         edges: edges.into_iter().map(|(from, to)| Edge { from: from as u32, to: to as u32 }).collect(),
         loops: nest
@@ -229,7 +274,9 @@ pub fn lawful(random: &mut Random, plan: &Plan) -> Problem {
             .iter()
             .map(|&(header, last)| Loop { header: header as u32, last: last as u32, bound: *random.pick(&plan.bounds) })
             .collect(),
-    }
+    };
+    plan.checks.deal(random, plan.costs, &mut problem.functions);
+    problem
 }
 
 /// A problem with every count at its greatest, whose numbers are as long as their ranges allow: no longer file is written.
@@ -238,7 +285,7 @@ pub fn longest(random: &mut Random) -> Problem {
         let plan = Plan { dead: 0, ..Plan::largest(random) };
         let mut problem = lawful(random, &plan);
         if problem.edges.len() == MOST_EDGES {
-            problem.functions.fill(Function { size: MOST_SIZE, load: MOST_SIZE });
+            problem.functions.fill(Function { size: MOST_SIZE, load: MOST_SIZE, check: MOST_CHECK });
             problem.vertices.iter_mut().for_each(|vertex| vertex.cost = MOST_SIZE);
             problem.loops.iter_mut().for_each(|l| l.bound = MOST_VISITS);
             return problem;
@@ -249,7 +296,7 @@ pub fn longest(random: &mut Random) -> Problem {
 /// A problem whose greatest visit charges under the empty layout are exactly `total` and whose one function has a load cost of
 /// `load`.
 pub fn with_total(total: u64, load: u32) -> Problem {
-    let functions = vec![Function { size: 1, load }];
+    let functions = vec![Function { size: 1, load, check: 0 }];
     followed_by(Problem { scratchpad: MOST_SIZE, functions, vertices: vec![], edges: vec![], loops: vec![] }, total)
 }
 
@@ -302,7 +349,7 @@ pub fn braided(random: &mut Random) -> Problem {
     let functions = random.count(2..=4);
     Problem {
         scratchpad: MOST_SIZE,
-        functions: vec![Function { size: 1, load: 1 }; functions],
+        functions: vec![Function { size: 1, load: 1, check: 0 }; functions],
         vertices: (0..=last).map(|_| Vertex { function: random.count(0..=functions - 1) as u32, cost: 1 }).collect(),
         edges: edges.into_iter().map(|(from, to)| Edge { from, to }).collect(),
         loops,

@@ -6,6 +6,8 @@
 //!
 //! CASES=10 in the environment tries ten times as many cases.
 
+#[path = "compare/check_costs.rs"]
+mod check_costs;
 #[path = "compare/evictions.rs"]
 mod evictions;
 #[path = "compare/loop_bounds.rs"]
@@ -168,7 +170,8 @@ impl Comparison {
         self.asked = Asked { file: file.to_vec(), ..Asked::default() };
         let lent = Lent::holding(&mut self.random, file);
         let before = lent.clone();
-        let counts = reference::read(file).map(|problem| problem.counts());
+        let problem = reference::read(file);
+        let counts = problem.as_ref().map(Problem::counts).map_err(|refusal| *refusal);
         let expected = counts.map(|c| [c.functions, c.vertices, c.edges, c.loops].map(u64::from).to_vec());
         let part = lent.part();
         // SAFETY: the part and the answer are valid for the call, and apart.
@@ -176,8 +179,9 @@ impl Comparison {
         let wrapped = plain(examiner::read(part)).map(|c| [c.functions, c.vertices, c.edges, c.loops].map(|count| count as u64).to_vec());
         assert_eq!(wrapped, expected);
         assert_eq!(lent, before);
-        if let Ok(counts) = counts {
-            self.spelt(file, counts);
+        if let Ok(problem) = problem {
+            self.spelt(file, problem.counts());
+            self.edition(file, &problem);
         }
     }
 
@@ -534,8 +538,8 @@ fn wrapped_fields(fields: &[u32; FIELDS]) -> examiner::Fields {
         ..Fields::default()
     };
     for (item, function) in wrapped.functions.iter_mut().enumerate() {
-        let (size, load) = pair(functions, item);
-        *function = Function { size, load };
+        let place = functions + 1 + 3 * item;
+        *function = Function { size: fields[place], load: fields[place + 1], check: fields[place + 2] };
     }
     for (item, vertex) in wrapped.vertices.iter_mut().enumerate() {
         let (function, cost) = pair(vertices, item);
@@ -568,6 +572,7 @@ fn wrapped_drawing(numbers: &Numbers) -> Option<examiner::Drawing> {
         Some(examiner::DrawnFunction {
             size: drawn.function.size,
             load: drawn.function.load,
+            check: drawn.function.check,
             vertices: counted(counts.vertices, drawn.vertices.iter().map(vertex))?,
             edges: counted(counts.edges, drawn.edges.iter().map(edge))?,
             loops: counted(counts.loops, drawn.loops.iter().map(looped))?,
@@ -701,7 +706,7 @@ fn any_small_graph(c: &mut Comparison) {
                 loops.push(Loop { header, last: c.random.field(header..=last), bound: c.random.field(1..=3) });
             }
         }
-        let functions = vec![Function { size: 1, load: 7 }, Function { size: 2, load: 100 }];
+        let functions = [(1, 7), (2, 100)].map(|(size, load)| Function { size, load, check: *c.random.pick(&[0, 5]) }).to_vec();
         let vertices = (0..vertices).map(|_| Vertex { function: c.random.field(0..=1), cost: c.random.field(0..=9) }).collect();
         let problem = Problem { scratchpad: 3, functions, vertices, edges, loops };
         c.saw("a random graph that is lawful", reference::graph::check(&problem).is_ok());
@@ -800,7 +805,7 @@ fn long_files(c: &mut Comparison) {
         assert_eq!(file.len(), LONGEST);
         c.problem(&problem);
         let padded = in_five_bytes(&numbers(&problem));
-        assert_eq!(padded.len(), 7_230);
+        assert_eq!(padded.len(), 7_390);
         c.file(&padded);
         c.file(&[&padded[..], &[0]].concat());
         let place = LONGEST - spell(MOST_VISITS).len();
@@ -846,7 +851,13 @@ fn detour(bound: u32, dead: bool) -> Problem {
     }
     edges.sort_unstable();
     let vertices = (0..8).map(|v| Vertex { function: v % 2, cost: MOST_SIZE }).collect();
-    Problem { scratchpad: 2, functions: vec![Function { size: 1, load: 3 }, Function { size: 1, load: MOST_SIZE }], vertices, edges, loops }
+    Problem {
+        scratchpad: 2,
+        functions: vec![Function { size: 1, load: 3, check: 0 }, Function { size: 1, load: MOST_SIZE, check: 0 }],
+        vertices,
+        edges,
+        loops,
+    }
 }
 
 /// So many loops of the greatest bound, each inside the one before, all with a way out.
@@ -856,7 +867,7 @@ fn deepest(depth: u32) -> Problem {
     edges.sort_unstable();
     let loops = (1..=depth).map(|header| Loop { header, last: depth, bound: MOST_VISITS }).collect();
     let vertices = (0..=depth + 1).map(|v| Vertex { function: v % 2, cost: if v % 3 == 0 { MOST_SIZE } else { 0 } }).collect();
-    let functions = vec![Function { size: 1, load: 5 }, Function { size: 1, load: MOST_SIZE }];
+    let functions = vec![Function { size: 1, load: 5, check: 0 }, Function { size: 1, load: MOST_SIZE, check: 0 }];
     Problem { scratchpad: 2, functions, vertices, edges, loops }
 }
 
@@ -897,7 +908,7 @@ fn long_walks(c: &mut Comparison) {
     edges.sort_unstable();
     let problem = Problem {
         scratchpad: MOST_SIZE,
-        functions: vec![Function { size: 3, load: MOST_SIZE }, Function { size: 4, load: 1 }, Function { size: 5, load: 9 }],
+        functions: [(3, MOST_SIZE), (4, 1), (5, 9)].map(|(size, load)| Function { size, load, check: 0 }).to_vec(),
         vertices: (0..32).map(|v| Vertex { function: v * v % 7 % 3, cost: MOST_SIZE }).collect(),
         edges,
         loops: vec![Loop { header: 1, last: 30, bound: MOST_VISITS }, Loop { header: 2, last: 9, bound: 40 }],
@@ -1075,7 +1086,8 @@ fn empty_slices(c: &mut Comparison) {
 fn main() {
     let mut comparison = Comparison::new();
     type Group = fn(&mut Comparison);
-    // the quick ones first, of files and of drawings; then the two totals, evictions, padded files, bounds of loops, and sentences
+    // the quick ones first, of files and of drawings; then the two totals, evictions, padded files, bounds of loops, check
+    // costs, and sentences
     let groups: &[(&str, Group)] = &[
         ("empty slices", empty_slices),
         ("random small graphs", any_small_graph),
@@ -1103,6 +1115,9 @@ fn main() {
         ("spoilt padded files", padding::spoilt_padded_files),
         ("loop bounds", loop_bounds::loop_bounds),
         ("long stays", loop_bounds::long_stays),
+        ("check costs", check_costs::check_costs),
+        ("editions", check_costs::editions),
+        ("priced checks", check_costs::priced_checks),
         ("worded remarks", sentences::worded_remarks),
         ("bytes of sentences", sentences::bytes_of_sentences),
         ("odd sentences", sentences::odd_sentences),
@@ -1142,7 +1157,8 @@ fn main() {
     }
     let refused_drawings = DRAWING_REFUSED.map(|(_, what)| (what, LEAST_REFUSED));
     let least = LEAST.into_iter().chain(refused_drawings).chain(least_of_totals());
-    let least = least.chain(evictions::least()).chain(padding::least()).chain(loop_bounds::LEAST).chain(sentences::least());
+    let least = least.chain(evictions::least()).chain(padding::least()).chain(loop_bounds::LEAST);
+    let least = least.chain(check_costs::least()).chain(sentences::least());
     for (what, least) in least {
         assert!(comparison.seen[what] >= least, "there was too seldom {what}");
     }

@@ -278,8 +278,9 @@ fn the_library_the_header_and_the_wrapper_have_the_same_limits() {
     for (name, most) in limits {
         assert_eq!((in_header(name), in_source(name)), (Some(most), Some(most)), "MOST_{name} of the header and of the library");
     }
-    // the library has it as a definition, of which the code makes no use
+    // the header and the wrapper alone have these by such a name
     assert_eq!(in_header("SHOWN"), Some(examiner::MOST_SHOWN));
+    assert_eq!(in_header("CHECK"), Some(examiner::MOST_CHECK as usize));
     // the header has it as the last row of a table
     assert_eq!(number_behind(&source, "pub const LAST_REFUSAL: u32 = ", ";"), Some(RefusalKind::ALL.len()));
 }

@@ -2,7 +2,7 @@
 
 use examiner::{Drawing, DrawnFunction, DrawnVertex, Edge, Fields, Function, Loop, Refusal, RefusalKind, Vertex};
 use examiner_tests::drawings::walk_of;
-use reference::examples::D4;
+use reference::examples::{d1, drawn_with_checks, D4};
 use reference::file::LONGEST;
 use reference::stack::lawful_runs;
 
@@ -33,6 +33,7 @@ fn graph(vertices: &str, edge_list: &str, loop_list: &[(u32, u32, u32)]) -> Draw
     DrawnFunction {
         size: 1,
         load: 0,
+        check: 0,
         vertices: vertices.split_whitespace().map(vertex).collect(),
         edges: edges(edge_list),
         loops: loops(loop_list),
@@ -57,7 +58,7 @@ fn inlined(drawing: &Drawing) -> Result<Vec<u8>, Refusal> {
 fn written(functions: usize, vertices: &str, edge_list: &str, loop_list: &[(u32, u32, u32)]) -> Vec<u8> {
     let vertex = |(function, cost)| Vertex { function: number(function), cost: number(cost) };
     let vertices: Vec<Vertex> = vertices.split_whitespace().map(|text| vertex(text.split_once(':').expect("a cost"))).collect();
-    let functions: Vec<Function> = LOADS[..functions].iter().map(|&load| Function { size: 1, load }).collect();
+    let functions: Vec<Function> = LOADS[..functions].iter().map(|&load| Function { size: 1, load, check: 0 }).collect();
     let fields = Fields::new(functions.len() as u32, &functions, &vertices, &edges(edge_list), &loops(loop_list));
     let mut out = vec![0; LONGEST];
     let bytes = examiner::write_fields(&fields.expect("there are places for all"), &mut out).expect("lawful");
@@ -137,6 +138,17 @@ fn d5_a_loop_at_vertex_0() {
 fn d6_a_loop_that_ends_behind_its_call() {
     let drawing = drawing(vec![graph("1 2 7>1 1", "0-1 1-1 1-2 2-3", &[(1, 2, 4)]), graph("1", "", &[])]);
     assert_eq!(inlined(&drawing), Ok(written(2, "0:1 0:2 0:7 1:1 0:1", "0-1 1-1 1-2 2-3 3-4", &[(1, 3, 4)])));
+}
+
+/// Function 0 is checked at the start and on each of two returns, function 1 on each of two calls.
+#[test]
+fn d1_with_check_costs() {
+    let mut drawing = drawing(vec![graph("10>1 20>1 30", "0-1 1-2", &[]), graph("2 3", "0-1", &[])]);
+    drawing.functions.iter_mut().zip([2, 4]).for_each(|(function, check)| function.check = check);
+    let file = inlined(&drawing).expect("lawful");
+    assert_eq!(bound_and_longest(&file, &drawn_with_checks(d1(), &[2, 4]), &[0, 1]), (78 + 3 * 2 + 2 * 4, 78 + 3 * 2 + 2 * 4));
+    drawing.functions[1].check = examiner::MOST_CHECK + 1;
+    assert_eq!(inlined(&drawing), Err(Refusal { number: RefusalKind::OutOfRange, place: 1 }));
 }
 
 #[test]

@@ -190,7 +190,7 @@ fn three_nested(own_costs: [u32; 2], load: u32) -> Vec<u8> {
     let costs = [0, 0, 0, own_costs[0], own_costs[1], 0];
     file_of(&Problem {
         scratchpad: 2,
-        functions: vec![Function { size: 1, load }; 2],
+        functions: vec![Function { size: 1, load, check: 0 }; 2],
         vertices: costs.into_iter().zip(0..).map(|(cost, v)| Vertex { function: u32::from(v == 4), cost }).collect(),
         edges: edges.to_vec(),
         loops: (1..=3).map(|header| Loop { header, last: 4, bound: 4_096 }).collect(),

@@ -9,12 +9,12 @@ use std::process::{Command, Output, Stdio};
 use std::time::Duration;
 use std::{env, process, thread};
 
-use examiner_tests::damage::{damaged_file, file_of, numbers, FILE_DAMAGES};
+use examiner_tests::damage::{damaged_file, file_of, numbers, numbers_in, spelled, FILE_DAMAGES};
 use examiner_tests::padding::in_five_bytes;
 use examiner_tests::problems::{lawful, longest, with_total, Plan};
 use examiner_tests::random::Random;
 use examiner_tests::{effort, layouts};
-use reference::examples::{p, t, M10};
+use reference::examples::{p, samples, t, with_checks, M10, M10_CHECKED};
 use reference::problem::{Problem, MOST_BOUND};
 
 /// A folder of its own to start the program in, removed afterwards.
@@ -98,6 +98,7 @@ fn slip(file: &[u8], layout: &[u8]) -> String {
 
 const OF_M10: &str = "need 8\ncharged 0\nfirst 5\nbound 15\n";
 const OF_P: &str = "need 14\ncharged 2\nfirst 8\nbound 85\n";
+const OF_P_CHECKED: &str = "need 14\ncharged 2\nfirst 8\nbound 96\n";
 
 #[test]
 fn a_missing_layout_is_an_empty_one() {
@@ -125,6 +126,33 @@ fn one_of_two_helpers_is_a_first_load() {
 }
 
 #[test]
+fn check_costs_are_in_the_bound() {
+    prints(&Desk::new("m10-checked").mark(&M10_CHECKED), "need 8\ncharged 0\nfirst 5\nbound 20\n");
+    prints(&Desk::new("p-checked").with_layout(&[0, 1, 1]).mark(&file_of(&with_checks(p(), &[1, 2, 3]))), OF_P_CHECKED);
+    // edition 2 with nothing to check
+    prints(&Desk::new("p-unchecked").with_layout(&[0, 1, 1]).mark(&spelled(&numbers_in(2, &p()))), OF_P);
+    prints(&Desk::new("edition-3").mark(&[&[3], &M10_CHECKED[1..]].concat()), "refused 3 at 0\n");
+    prints(&Desk::new("check-65536").mark(&[&M10_CHECKED[..5], &[0x80, 0x80, 0x04], &M10_CHECKED[6..]].concat()), "refused 3 at 5\n");
+}
+
+/// As `samples/README.md` lists them.
+#[test]
+fn slips_of_the_bundled_samples() {
+    let slips = [
+        ("p", OF_P),
+        ("p-checks", OF_P_CHECKED),
+        ("q", "need 2\ncharged 0\nfirst 8\nbound 48\n"),
+        ("r", "need 2\ncharged 0\nfirst 8\nbound 39\n"),
+        ("r-0-0", "need 1\ncharged 2\nfirst 5\nbound 65\n"),
+        ("m10", OF_M10),
+    ];
+    assert_eq!(samples().iter().map(|sample| sample.name).collect::<Vec<_>>(), slips.map(|(name, _)| name));
+    for (sample, (_, slip)) in samples().iter().zip(slips) {
+        prints(&Desk::new(sample.name).with_layout(&sample.layout).mark(&sample.problem), slip);
+    }
+}
+
+#[test]
 fn a_padded_file_has_the_slip_of_the_shortest() {
     let padded = |problem: &Problem| in_five_bytes(&numbers(problem));
     prints(&Desk::new("padded").with_layout(&[0, 1, 1]).mark(&padded(&p())), OF_P);
@@ -132,7 +160,7 @@ fn a_padded_file_has_the_slip_of_the_shortest() {
     let problem = longest(&mut Random::seeded(6));
     let layout = [0; 32];
     prints(&Desk::new("longest").with_layout(&layout).mark(&padded(&problem)), &slip(&file_of(&problem), &layout));
-    prints(&Desk::new("left-over").mark(&[padded(&problem), vec![0]].concat()), "refused 5 at 7230\n");
+    prints(&Desk::new("left-over").mark(&[padded(&problem), vec![0]].concat()), "refused 5 at 7390\n");
 }
 
 #[test]

@@ -133,10 +133,10 @@ fn p_q_and_r_in_five_bytes_a_number() {
 fn the_longest_file_in_five_bytes_a_number() {
     let numbers = numbers(&longest(&mut Random::seeded(6)));
     let padded = in_five_bytes(&numbers);
-    assert_eq!(padded.len(), 7_230);
+    assert_eq!(padded.len(), 7_390);
     assert_eq!(read(&padded), Ok(128));
-    assert_eq!(write(&padded, 2_059), Ok(spelled(&numbers)));
-    assert_eq!(write(&padded, 2_058), Err((10, 2_059)));
-    assert_eq!(read(&padded[..7_229]), Err((1, 7_229)));
-    assert_eq!(read(&[padded, vec![0]].concat()), Err((5, 7_230)));
+    assert_eq!(write(&padded, 2_155), Ok(spelled(&numbers)));
+    assert_eq!(write(&padded, 2_154), Err((10, 2_155)));
+    assert_eq!(read(&padded[..7_389]), Err((1, 7_389)));
+    assert_eq!(read(&[padded, vec![0]].concat()), Err((5, 7_390)));
 }

@@ -9,8 +9,9 @@ use examiner_tests::drawings::{self, DrawingPlan, Shape, DRAWING_DAMAGES};
 use examiner_tests::problems::{followed_by, lawful, longest, with_total, Plan};
 use examiner_tests::random::Random;
 use examiner_tests::totals::{self, Priced};
-use examiner_tests::{effort, layouts, walks};
-use reference::examples::{p, t, u};
+use examiner_tests::{checks, effort, layouts, walks};
+use reference::examples::{p, samples, t, u};
+use reference::file::LONGEST;
 use reference::layout::{check, contested, filled, filled_in_turn};
 use reference::longest::{by_contraction, by_states, lawful_walks, Charges};
 use reference::problem::*;
@@ -73,6 +74,7 @@ fn generated_problems_are_lawful() {
         saw("a function without a vertex", (0..functions).any(|f| problem.vertices.iter().all(|v| v.function != f)));
         saw("a greatest cost", problem.vertices.iter().any(|v| v.cost == MOST_SIZE));
         saw("a greatest load cost", problem.functions.iter().any(|f| f.load == MOST_SIZE));
+        checks::kinds(&problem).for_each(|(what, it)| saw(what, it));
     }
     for (what, times) in seen {
         println!("{times:6}  {what}");
@@ -84,7 +86,7 @@ fn generated_problems_are_lawful() {
 fn one_vertex_a_function(functions: u32) -> Problem {
     Problem {
         scratchpad: MOST_SIZE,
-        functions: (1..=functions).map(|size| Function { size, load: 1 }).collect(),
+        functions: (1..=functions).map(|size| Function { size, load: 1, check: 0 }).collect(),
         vertices: (0..functions).map(|function| Vertex { function, cost: 1 }).collect(),
         edges: (1..functions).map(|to| Edge { from: to - 1, to }).collect(),
         loops: vec![],
@@ -270,14 +272,14 @@ fn the_bound_is_the_smaller_total_and_no_lawful_walk_runs_longer() {
         let priced = Priced::new(&problem, &regions);
         smaller_total_by_states(&problem, &regions, &priced, &mut by_state);
         by_walk += usize::from(every_walk_is_covered(&problem, &regions, &priced));
-        for (what, it) in priced.cases().into_iter().chain(priced.readings()) {
+        for (what, it) in priced.cases().into_iter().chain(priced.readings()).chain(checks::readings(&problem, &priced)) {
             *seen.entry(what).or_insert(0) += usize::from(it);
         }
     }
     println!("{by_state} sums by states, {by_walk} problems by all walks");
     assert!(by_state > 10_000 && by_walk > 3_000);
     let smaller = [totals::FIRST_SMALLER, totals::SECOND_SMALLER, totals::BOTH_AGREE];
-    for what in [&smaller[..], &totals::SHAPES, &totals::READINGS].concat() {
+    for what in [&smaller[..], &totals::SHAPES, &totals::READINGS, &checks::READINGS].concat() {
         println!("{:6}  {what}", seen[what]);
         assert!(seen[what] > 20, "there was hardly ever {what}");
     }
@@ -321,7 +323,7 @@ fn written_files_read_back() {
         let mut fields = problem.to_fields();
         fill_spare_places(&mut random, &mut fields);
         assert_eq!(from_fields(&fields), (problem.clone(), problem.counts()));
-        let mut out = vec![0xA5; 2_200];
+        let mut out = vec![0xA5; LONGEST + 40];
         let written = reference::write_fields(&fields, &mut out).expect("lawful");
         assert_eq!(reference::read(&out[..written]), Ok(problem));
         assert!(out[written..].iter().all(|&byte| byte == 0xA5));
@@ -361,7 +363,7 @@ fn bounds_where_one_total_passes_the_limit() {
 #[test]
 fn the_longest_file_that_is_written() {
     let written = file_of(&longest(&mut Random::seeded(6)));
-    assert_eq!((written.len(), file::LONGEST), (2_059, 2_059));
+    assert_eq!((written.len(), LONGEST), (2_155, 2_155));
     assert!(reference::read(&written).is_ok());
 }
 
@@ -533,7 +535,7 @@ fn drawings_inlined_quickly() {
     let mut random = Random::seeded(11);
     let mut hits = [0; 21];
     let mut agree = |random: &mut Random, numbers: &drawing::Numbers| {
-        let length = if random.percent(20) { random.count(0..=120) } else { 2_100 };
+        let length = if random.percent(20) { random.count(0..=120) } else { LONGEST };
         let mut plain = vec![0xA5; length];
         let mut quick = plain.clone();
         let written = reference::inline(numbers, &mut plain);
@@ -574,7 +576,7 @@ fn samples_are_as_their_page_says() {
     let folder = Path::new(env!("CARGO_MANIFEST_DIR")).join("../samples");
     let page = fs::read_to_string(folder.join("README.md")).expect("the page is there");
     let rows = table_rows(&page);
-    for sample in reference::examples::samples() {
+    for sample in samples() {
         let place = folder.join(sample.name);
         assert_eq!(fs::read(place.join("problem.bin")).expect("bundled"), sample.problem, "{}", sample.name);
         assert_eq!(fs::read(place.join("layout.bin")).expect("bundled"), sample.layout, "{}", sample.name);
@@ -582,7 +584,15 @@ fn samples_are_as_their_page_says() {
         let row = rows.iter().find(|row| row[0] == sample.name).expect("the page names it");
         assert_eq!(row[3..7], [bound.need, bound.contested, bound.first_loads, bound.bound].map(|number| number.to_string()));
     }
-    let bytes: Vec<u8> = rows.iter().filter(|row| row.len() == 3).filter_map(|row| u8::from_str_radix(row[1], 16).ok()).collect();
-    let q = reference::examples::samples().into_iter().find(|sample| sample.name == "q").expect("bundled");
-    assert_eq!(bytes, q.problem);
+}
+
+/// All bytes of Q, then those of P with check costs up to its vertices.
+#[test]
+fn bytes_are_as_the_page_of_samples_says() {
+    let page = fs::read_to_string(Path::new(env!("CARGO_MANIFEST_DIR")).join("../samples/README.md")).expect("the page is there");
+    let rows = table_rows(&page);
+    let listed: Vec<u8> = rows.iter().filter(|row| row.len() == 3).filter_map(|row| u8::from_str_radix(row[1], 16).ok()).collect();
+    let problem = |name: &str| samples().into_iter().find(|sample| sample.name == name).expect("bundled").problem;
+    let before_vertices = 3 + 3 * 3;
+    assert_eq!(listed, [&problem("q")[..], &problem("p-checks")[..before_vertices]].concat());
 }

@@ -3,11 +3,12 @@
 
 use examiner::{Edge, Fields, Function, Loop, Refusal, RefusalKind, Vertex};
 use reference::examples::M10;
+use reference::file::LONGEST;
 
 fn fields(scratchpad: u32, functions: &[(u32, u32)], vertices: &[(u32, u32)], edges: &[(u32, u32)], loops: &[(u32, u32, u32)]) -> Fields {
     Fields::new(
         scratchpad,
-        &functions.iter().map(|&(size, load)| Function { size, load }).collect::<Vec<_>>(),
+        &functions.iter().map(|&(size, load)| Function { size, load, check: 0 }).collect::<Vec<_>>(),
         &vertices.iter().map(|&(function, cost)| Vertex { function, cost }).collect::<Vec<_>>(),
         &edges.iter().map(|&(from, to)| Edge { from, to }).collect::<Vec<_>>(),
         &loops.iter().map(|&(header, last, bound)| Loop { header, last, bound }).collect::<Vec<_>>(),
@@ -17,14 +18,21 @@ fn fields(scratchpad: u32, functions: &[(u32, u32)], vertices: &[(u32, u32)], ed
 
 /// The file that the library writes for a record.
 fn file(fields: &Fields) -> Vec<u8> {
-    let mut out = [0; 2_100];
+    let mut out = [0; LONGEST];
     let written = examiner::write_fields(fields, &mut out).expect("lawful");
     out[..written].to_vec()
 }
 
 fn p(scratchpad: u32) -> Vec<u8> {
+    p_with_checks(scratchpad, [0; 3])
+}
+
+fn p_with_checks(scratchpad: u32, checks: [u32; 3]) -> Vec<u8> {
     let vertices = [0, 1, 0, 2, 0, 1, 0].map(|function| (function, 10));
-    file(&fields(scratchpad, &[(8, 5), (4, 3), (6, 4)], &vertices, &[(0, 1), (1, 2), (2, 3), (3, 4), (4, 5), (5, 6)], &[]))
+    let edges = [(0, 1), (1, 2), (2, 3), (3, 4), (4, 5), (5, 6)];
+    let mut fields = fields(scratchpad, &[(8, 5), (4, 3), (6, 4)], &vertices, &edges, &[]);
+    fields.functions.iter_mut().zip(checks).for_each(|(function, check)| function.check = check);
+    file(&fields)
 }
 
 fn q() -> Vec<u8> {
@@ -74,6 +82,7 @@ fn files_are_as_bundled() {
     for sample in reference::examples::samples() {
         let written = match sample.name {
             "p" => p(14),
+            "p-checks" => p_with_checks(14, [1, 2, 3]),
             "q" => q(),
             "m10" => M10.to_vec(),
             _ => r(4),
@@ -101,7 +110,7 @@ fn refusals_have_names_and_numbers() {
 #[test]
 fn records_have_a_limited_number_of_places() {
     let vertex = Vertex { function: 0, cost: 0 };
-    let function = Function { size: 1, load: 0 };
+    let function = Function { size: 1, load: 0, check: 0 };
     assert!(Fields::new(1, &[function; 32], &[vertex; 128], &[Edge::default(); 512], &[Loop::default(); 32]).is_some());
     assert_eq!(Fields::new(1, &[function; 33], &[vertex], &[], &[]), None);
     assert_eq!(Fields::new(1, &[function], &[vertex; 129], &[], &[]), None);

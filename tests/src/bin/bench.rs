@@ -10,7 +10,7 @@ use examiner_tests::damage::{file_of, numbers};
 use examiner_tests::drawings::drawn;
 use examiner_tests::evictions::{Shown, REASONS};
 use examiner_tests::padding::in_five_bytes;
-use examiner_tests::problems::{lawful, Amounts, Plan};
+use examiner_tests::problems::{lawful, Amounts, Checks, Plan};
 use examiner_tests::random::Random;
 use examiner_tests::sentences::{bytes_of, plain_remark, refused, wrapped_remark};
 use examiner_tests::walks;
@@ -86,6 +86,13 @@ impl Subject {
         Subject { layout, ..self.clone() }
     }
 
+    /// The problem with a check cost for each function, so of edition 2, under the same layout.
+    fn checked(&self) -> Subject {
+        let mut problem = self.problem.clone();
+        Checks::Everywhere.deal(&mut Random::seeded(1), Amounts::Any, &mut problem.functions);
+        Subject { name: format!("{}, check costs", self.name), file: file_of(&problem), problem, layout: self.layout.clone() }
+    }
+
     /// The same problem by a file with every number in five bytes.
     fn padded(&self) -> Subject {
         Subject { name: format!("{}, padded", self.name), file: in_five_bytes(&numbers(&self.problem)), ..self.clone() }
@@ -124,6 +131,7 @@ fn largest() -> Plan {
         bounds: vec![2, 3],
         costs: Amounts::Any,
         sizes: Amounts::Small,
+        checks: Checks::Nowhere,
         dead: 0,
         deep: false,
         around: true,
@@ -281,6 +289,29 @@ fn row_of_a_drawing(sketch: &Sketch) {
     named_row("Inline", sketch.name, inline(sketch), &note);
 }
 
+/// Read, Interference, Bound and Run on the largest problems; the third has no loops, so no long walk.
+fn rows_of_the_largest(subjects: &[Subject; 3]) {
+    for subject in subjects {
+        row("Read", subject, read(subject), |_, _| format!("{} bytes", subject.file.len()));
+        let padded = subject.padded();
+        row("Read", &padded, read(&padded), |_, _| format!("{} bytes, five a number", padded.file.len()));
+    }
+    for subject in subjects {
+        row("Interference", subject, interference(subject), |_, _| "4,096 words".to_string());
+    }
+    for subject in subjects {
+        row("Bound", subject, bound(subject), |_, _| "32 functions in 8 regions".to_string());
+    }
+    for subject in subjects {
+        rows_of_functions_apart(subject);
+    }
+    for subject in &subjects[..2] {
+        row("Run", subject, run(subject), |library, reference| {
+            format!("1,000,000 entries: {:.2} ns a step, reference {:.2}", library * 1e3, reference * 1e3)
+        });
+    }
+}
+
 /// Bound where every function has a region of its own, which the layout lists or which is filled in.
 fn rows_of_functions_apart(subject: &Subject) {
     let listed = subject.under((0..MOST_FUNCTIONS as u8).collect());
@@ -351,28 +382,14 @@ fn main() {
     ];
     println!("| operation | largest problem | library | reference | ratio | |");
     println!("|---|---|---|---|---|---|");
-    for subject in &subjects {
-        row("Read", subject, read(subject), |_, _| format!("{} bytes", subject.file.len()));
-        let padded = subject.padded();
-        row("Read", &padded, read(&padded), |_, _| format!("{} bytes, five a number", padded.file.len()));
-    }
-    for subject in &subjects {
-        row("Interference", subject, interference(subject), |_, _| "4,096 words".to_string());
-    }
-    for subject in &subjects {
-        row("Bound", subject, bound(subject), |_, _| "32 functions in 8 regions".to_string());
-    }
-    for subject in &subjects {
-        rows_of_functions_apart(subject);
-    }
-    for subject in &subjects[..2] {
-        row("Run", subject, run(subject), |library, reference| {
-            format!("1,000,000 entries: {:.2} ns a step, reference {:.2}", library * 1e3, reference * 1e3)
-        });
-    }
-
+    rows_of_the_largest(&subjects);
     subjects.iter().for_each(rows_of_evictions);
     rows_of_the_longest_walk();
+
+    println!("\nThe largest problems once more, with a check cost for each function.\n");
+    println!("| operation | largest problem | library | reference | ratio | |");
+    println!("|---|---|---|---|---|---|");
+    rows_of_the_largest(&subjects.each_ref().map(Subject::checked));
 
     println!("\n| operation | drawing | library | reference | ratio | the one problem |");
     println!("|---|---|---|---|---|---|");

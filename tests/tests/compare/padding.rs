@@ -46,15 +46,17 @@ pub fn least() -> Vec<(&'static str, usize)> {
     counted.into_iter().chain(BOTH_REFUSED.map(|(_, what)| (what, 100))).collect()
 }
 
-/// Two files of the same numbers.
-struct Pair {
-    short: Vec<u8>,
-    padded: Vec<u8>,
+/// Two files that say the same: of the same numbers, lawful or not, or of the same lawful problem.
+pub struct Pair {
+    /// The shortest.
+    pub short: Vec<u8>,
+    /// One that is padded, or of edition 2 where 1 would do.
+    pub longer: Vec<u8>,
 }
 
 impl Pair {
     fn of(random: &mut Random, numbers: &[u32]) -> Pair {
-        Pair { short: spelled(numbers), padded: padded(random, numbers) }
+        Pair { short: spelled(numbers), longer: padded(random, numbers) }
     }
 
     /// What an operation answers of both, which must be the same and leave the same in what is lent to it; but 1 to 5 are placed at the same
@@ -64,18 +66,18 @@ impl Pair {
         lent: L,
         ask: impl Fn(&[u8], &mut L) -> Result<T, examiner::Refusal>,
     ) -> Result<T, examiner::Refusal> {
-        let (mut left, mut left_of_padded) = (lent.clone(), lent);
-        let answer = ask(&self.short, &mut left).map_err(|refusal| self.in_padded(refusal));
-        let of_padded = ask(&self.padded, &mut left_of_padded);
-        assert_eq!((&of_padded, left_of_padded), (&answer, left), "the left is of the padded file, the right of {:02X?}", self.short);
-        of_padded
+        let (mut left, mut left_of_longer) = (lent.clone(), lent);
+        let answer = ask(&self.short, &mut left).map_err(|refusal| self.in_longer(refusal));
+        let of_longer = ask(&self.longer, &mut left_of_longer);
+        assert_eq!((&of_longer, left_of_longer), (&answer, left), "the left is of the longer file, the right of {:02X?}", self.short);
+        of_longer
     }
 
-    fn in_padded(&self, refusal: examiner::Refusal) -> examiner::Refusal {
+    fn in_longer(&self, refusal: examiner::Refusal) -> examiner::Refusal {
         if refusal.number > RefusalKind::LeftOver {
             return refusal;
         }
-        let place = same_number(&self.short, refusal.place as usize, &self.padded) as u64;
+        let place = same_number(&self.short, refusal.place as usize, &self.longer) as u64;
         examiner::Refusal { place, ..refusal }
     }
 }
@@ -84,8 +86,9 @@ impl Comparison {
     /// Counts how the numbers of an accepted file are spelt.
     pub fn spelt(&mut self, file: &[u8], Counts { functions, vertices, edges, .. }: Counts) {
         let padded: Vec<bool> = spellings(file).map(is_padded).collect();
-        let first_edge = 3 + 2 * functions + 1 + 2 * vertices + 1;
-        let edges = &padded[first_edge as usize..][..2 * edges as usize];
+        let edition = u32::from(file[0] & 0x7F);
+        let first_edge = 3 + function_width(edition) * functions as usize + 1 + 2 * vertices as usize + 1;
+        let edges = &padded[first_edge..][..2 * edges as usize];
         let edges: Vec<bool> = edges.chunks(2).map(|edge| edge.contains(&true)).collect();
         let any = padded.contains(&true);
         self.saw(SHORTEST, !any);
@@ -95,15 +98,18 @@ impl Comparison {
         self.saw(PADDED_BETWEEN, edges.windows(3).any(|run| run == [false, true, false]));
     }
 
-    /// An accepted file comes back as the shortest with its content: byte for byte exactly where no number of it is padded.
+    /// An accepted file comes back as the shortest with its content: byte for byte exactly where no number of it is padded and its edition is the
+    /// one that is written.
     pub fn written_back(&mut self, file: &[u8], written: &[u8], room: usize) {
         let problem = reference::read(file).expect("accepted");
         assert_eq!(written, file_of(&problem), "the left was written, the right is the shortest file");
         let padded = spellings(file).any(is_padded);
-        assert_eq!((written.len() < file.len(), written != file), (padded, padded), "whether it became shorter, and whether it changed");
-        self.saw(KEPT, !padded);
+        let longer = padded || u32::from(file[0] & 0x7F) != problem.edition();
+        assert_eq!((written.len() < file.len(), written != file), (longer, longer), "whether it became shorter, and whether it changed");
+        self.saw(KEPT, !longer);
         self.saw(SHORTENED, padded);
         self.saw(INTO_FEWER, room < file.len());
+        self.edition_back(file, written, problem.functions.len());
     }
 
     /// Counts the refusals of Write itself.
@@ -111,11 +117,11 @@ impl Comparison {
         self.saw(TOO_SHORT, refusal.number == 10 && spellings(file).any(is_padded));
     }
 
-    /// Every operation on two files of the same numbers, lawful or not.
-    fn alike(&mut self, pair: &Pair, layout: &[u8], walk: &[u32]) {
-        self.asked = Asked { file: pair.padded.clone(), layout: layout.to_vec(), walk: walk.to_vec(), ..Asked::default() };
+    /// Every operation on two files that say the same: what Read answers.
+    pub fn alike(&mut self, pair: &Pair, layout: &[u8], walk: &[u32]) -> Result<examiner::Counts, examiner::Refusal> {
+        self.asked = Asked { file: pair.longer.clone(), layout: layout.to_vec(), walk: walk.to_vec(), ..Asked::default() };
         let counts = pair.alike((), |file, ()| examiner::read(file));
-        let room = self.random.count(0..=pair.padded.len());
+        let room = self.random.count(0..=pair.longer.len());
         _ = pair.alike(vec![0xA5; room], |file, out| examiner::write(file, out));
         let words = counts.map_or(9, |counts| self.random.count(0..=counts.vertices * counts.functions + 9));
         _ = pair.alike(vec![0xA5; words], |file, words| examiner::interference(file, words));
@@ -125,7 +131,13 @@ impl Comparison {
         for vertex in 0..=counts.map_or(0, |counts| counts.vertices as u64) {
             _ = pair.alike([0xA5; MOST_SHOWN], |file, shown| examiner::eviction(file, layout, vertex, shown));
         }
-        let differ = pair.short != pair.padded;
+        counts
+    }
+
+    /// Every operation on two files of the same numbers, lawful or not.
+    fn padded_alike(&mut self, pair: &Pair, layout: &[u8], walk: &[u32]) {
+        let counts = self.alike(pair, layout, walk);
+        let differ = pair.short != pair.longer;
         self.saw(ALIKE, differ);
         for (number, what) in BOTH_REFUSED {
             self.saw(what, differ && counts.is_err_and(|refusal| refusal.number.number() == number));
@@ -166,14 +178,14 @@ pub fn padded_files(c: &mut Comparison) {
             walk = walks::damaged(&mut c.random, &problem, &walk, damage);
         }
         let pair = Pair::of(&mut c.random, &numbers(&problem));
-        c.alike(&pair, &layout, &walk);
-        c.file(&pair.padded);
-        let (needed, given) = (pair.short.len(), pair.padded.len());
+        c.padded_alike(&pair, &layout, &walk);
+        c.file(&pair.longer);
+        let (needed, given) = (pair.short.len(), pair.longer.len());
         for length in [needed - 1, needed, c.random.count(needed..=given), given - 1, given] {
-            c.write(&pair.padded, length);
+            c.write(&pair.longer, length);
         }
-        c.layout_and_walk(&pair.padded, &layout, &walk);
-        c.every_eviction(&problem, &pair.padded, &layout);
+        c.layout_and_walk(&pair.longer, &layout, &walk);
+        c.every_eviction(&problem, &pair.longer, &layout);
     }
 }
 
@@ -183,9 +195,9 @@ pub fn spoilt_padded_files(c: &mut Comparison) {
         let (problem, layout) = laid_out(c, case);
         let spoilt = spoilt(&mut c.random, &problem);
         let pair = Pair::of(&mut c.random, &spoilt);
-        c.alike(&pair, &layout, &[0]);
-        c.file(&pair.padded);
-        c.layout_and_walk(&pair.padded, &layout, &[0]);
+        c.padded_alike(&pair, &layout, &[0]);
+        c.file(&pair.longer);
+        c.layout_and_walk(&pair.longer, &layout, &[0]);
 
         let mut changed = padded(&mut c.random, &numbers(&problem));
         let at = c.random.count(0..=changed.len() - 1);
