@@ -8,7 +8,7 @@ use lib.ListN.{length, get_or}
 use lib.Dec.{eqb}
 use borrow.Author.Tests.{eqb-true}
 use Rattle.model.specs.declared.Refusal.{Refusal}
-use Rattle.model.specs.declared.Refusal.TheVariants.{EndsEarly, Misspelt, OutOfRange, NotAscending, LeftOver, MissingEdge, WrongLoop, WrongEdge, NoEdgeBack, BufferTooShort, LayoutTooLong, UnknownRegion, ScratchpadTooSmall, BoundTooLarge, WrongStep, BeyondBound, WalkTooLong, Recursive, CountPassed, LastCalls, UnknownVertex, NoSentence, ManyFunctions}
+use Rattle.model.specs.declared.Refusal.TheVariants.{EndsEarly, Misspelt, OutOfRange, NotAscending, LeftOver, MissingEdge, WrongLoop, WrongEdge, NoEdgeBack, BufferTooShort, LayoutTooLong, UnknownRegion, ScratchpadTooSmall, BoundTooLarge, WrongStep, BeyondBound, WalkTooLong, Recursive, CountPassed, LastCalls, UnknownVertex, NoSentence}
 use Rattle.model.specs.Refusals.{last_refusal, number, place, refusals, refusal_of, placed_at}
 use Rattle.model.proofs.Cases.{and_left, and_right}
 
@@ -44,7 +44,6 @@ known (CountPassed at) = record { low = omega arith; high = omega arith; is = re
 known (LastCalls at) = record { low = omega arith; high = omega arith; is = refl; elsewhere = λ k. refl; kept = λ k. refl; moved = λ k. refl }
 known (UnknownVertex at) = record { low = omega arith; high = omega arith; is = refl; elsewhere = λ k. refl; kept = λ k. refl; moved = λ k. refl }
 known (NoSentence at) = record { low = omega arith; high = omega arith; is = refl; elsewhere = λ k. refl; kept = λ k. refl; moved = λ k. refl }
-known (ManyFunctions at) = record { low = omega arith; high = omega arith; is = refl; elsewhere = λ k. refl; kept = λ k. refl; moved = λ k. refl }
 
 -- The list has the numbers from 1 on: one computed test.
 abbrev in_order : List (ℕ → Refusal) → ℕ → Bool

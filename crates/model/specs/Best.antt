@@ -1,7 +1,6 @@
 -- The best layout, of document 02: for up to eight functions a grouping into regions that fits and whose bound is least.
 use Rattle.std.specs.Prelude.{ℕ, suc, ◌≤◌, ◌<◌, ◌≡◌, List, cond, ◌⊎◌, length, get_or, replicate, eqb, ltb}
 use Rattle.std.proofs.lemmas.List.Edits.{sets}
-use Rattle.model.specs.declared.Refusal.TheVariants.{ManyFunctions, BoundTooLarge}
 use Rattle.model.specs.declared.Verdict.{Verdict}
 use Rattle.model.specs.declared.Verdict.TheVariants as verdict
 use Rattle.model.specs.declared.Problem.{Problem}
@@ -63,27 +62,3 @@ pub record BestIs (p : Problem) (regions : List ℕ) (best : Best) : Type 0 wher
   pub bound_is : best.bound ≡ bound.bound
   pub least : (layout : List ℕ) (b : Bound) → BoundSays p layout (Bounded b) →
       Ranks best.bound.0 best.need.0 regions b.bound.0 b.need.0 (grouping_of p layout)
-
--- 23, more than eight functions (their number).
-abbrev pub judge_few : Problem → Verdict
-judge_few p = cond (ltb most_grouped p.function_count) (verdict.Refused (ManyFunctions p.function_count)) verdict.Accepted
-
--- The layout in which all functions share a single region.
-abbrev pub shared : Problem → List ℕ
-shared p = replicate p.function_count 0
-
--- As Write through 9; 23; then 13, a single shared region needs more than the scratchpad (bytes that it needs). (14 is about the bounds themselves.)
-unfoldable pub judge_best : Problem → Verdict
-judge_best p = and_then (judge_problem p) (and_then (judge_few p) (judge_need p (need_of p (shared p))))
-
--- The bound of every layout that fits passes the limit.
-abbrev pub AllPast : Problem → Type 0
-AllPast p = (layout : List ℕ) → Fits p layout → PastTheLimit p layout
-
--- The grouping stands at the front of the lent regions. The other places keep their values, after a refusal all of them.
-abbrev pub BestSays : Problem → List ℕ → List ℕ → BestAnswer → Type 0
-BestSays p before after (best.Found b) =
-    (judge_best p ≡ verdict.Accepted) × ((regions : List ℕ) × BestIs p regions b × (after ≡ sets before 0 regions))
-BestSays p before after (best.Refused f) =
-    (after ≡ before)
-    × ((judge_best p ≡ verdict.Refused f) ⊎ ((judge_best p ≡ verdict.Accepted) × (f ≡ BoundTooLarge 0) × AllPast p))

@@ -29,7 +29,6 @@ use Rattle.model.specs.Numbers.{numbers_of}
 use Rattle.model.specs.Operations.{read_file, write_problem}
 use Rattle.model.specs.Evictions.{reason_number, reason_values}
 use Rattle.model.specs.Results.{InterferenceSays, BoundSays, run_walk, EvictionSays}
-use Rattle.model.specs.Best.{BestSays}
 use Rattle.model.specs.Inlined.{inline_drawing}
 use Rattle.model.specs.Sentences.{word_remark, ReadsAs}
 
@@ -112,7 +111,7 @@ abbrev pub word_says : Remark → ℕ → Outcome
 word_says r room = word_outcome (word_remark r room)
 
 -- An outcome that Interference says, where the lent words hold `after` at the end, one that Bound says, one that Eviction says, where the lent walk holds
--- `after` at the end, one that Best says, where the lent regions do, and one that Read-sentence says of a text.
+-- `after` at the end, and one that Read-sentence says of a text.
 abbrev pub FillsWords : Problem → List ℕ → List ℕ → Outcome → Type 0
 FillsWords p words after o = (r : InterferenceAnswer) × InterferenceSays p words after r × (o ≡ interference_outcome r)
 
@@ -121,9 +120,6 @@ IsBounded p layout o = (r : BoundAnswer) × BoundSays p layout r × (o ≡ bound
 
 abbrev pub Evicted : Problem → List ℕ → ℕ → List ℕ → List ℕ → Outcome → Type 0
 Evicted p layout v walk after o = (r : EvictionAnswer) × EvictionSays p layout v walk after r × (o ≡ eviction_outcome r)
-
-abbrev pub IsBest : Problem → List ℕ → List ℕ → Outcome → Type 0
-IsBest p regions after o = (r : BestAnswer) × BestSays p regions after r × (o ≡ best_outcome r)
 
 abbrev pub Understood : List ℕ → Outcome → Type 0
 Understood s o = (r : SentenceAnswer) × ReadsAs s r × (o ≡ sentence_outcome r)

@@ -1,7 +1,7 @@
 -- Refusals: the documents' number and place of each.
 use Rattle.std.specs.Prelude.{ℕ, ◌-◌, ◌≡◌, List, [], ◌∷◌, get_or}
 use Rattle.model.specs.declared.Refusal.{Refusal}
-use Rattle.model.specs.declared.Refusal.TheVariants.{EndsEarly, Misspelt, OutOfRange, NotAscending, LeftOver, MissingEdge, WrongLoop, WrongEdge, NoEdgeBack, BufferTooShort, LayoutTooLong, UnknownRegion, ScratchpadTooSmall, BoundTooLarge, WrongStep, BeyondBound, WalkTooLong, Recursive, CountPassed, LastCalls, UnknownVertex, NoSentence, ManyFunctions}
+use Rattle.model.specs.declared.Refusal.TheVariants.{EndsEarly, Misspelt, OutOfRange, NotAscending, LeftOver, MissingEdge, WrongLoop, WrongEdge, NoEdgeBack, BufferTooShort, LayoutTooLong, UnknownRegion, ScratchpadTooSmall, BoundTooLarge, WrongStep, BeyondBound, WalkTooLong, Recursive, CountPassed, LastCalls, UnknownVertex, NoSentence}
 use Rattle.model.specs.declared.Verdict.{Verdict}
 use Rattle.model.specs.declared.Verdict.TheVariants as verdict
 
@@ -28,7 +28,6 @@ number (CountPassed at) = 19
 number (LastCalls at) = 20
 number (UnknownVertex at) = 21
 number (NoSentence at) = 22
-number (ManyFunctions at) = 23
 
 abbrev pub place : Refusal → ℕ
 place (EndsEarly at) = at
@@ -53,11 +52,10 @@ place (CountPassed at) = at
 place (LastCalls at) = at
 place (UnknownVertex at) = at
 place (NoSentence at) = at
-place (ManyFunctions at) = at
 
 -- The last refusal's number.
 abbrev pub last_refusal : ℕ
-last_refusal = 23
+last_refusal = 22
 
 -- The refusals in the order of their numbers, each without its place.
 abbrev pub refusals : List (ℕ → Refusal)
@@ -84,7 +82,6 @@ refusals =
     ∷ LastCalls
     ∷ UnknownVertex
     ∷ NoSentence
-    ∷ ManyFunctions
     ∷ []
 
 -- The refusal with a number, 1 to the last, and a place.
@@ -115,7 +112,6 @@ placed_at (CountPassed at) k = CountPassed k
 placed_at (LastCalls at) k = LastCalls k
 placed_at (UnknownVertex at) k = UnknownVertex k
 placed_at (NoSentence at) k = NoSentence k
-placed_at (ManyFunctions at) k = ManyFunctions k
 
 -- A verdict that refuses.
 abbrev pub Refuses : Verdict → Type 0

@@ -42,7 +42,6 @@ phrases =
     ∷ "the last vertex of a graph calls; its function is "
     ∷ "the vertex is unknown; its number is "
     ∷ "the text is no such sentence; the first byte that does not fit is at "
-    ∷ "there are more than eight functions; their number is "
     ∷ []
 
 unfoldable pub phrase : ℕ → List ℕ

@@ -63,7 +63,7 @@ pub struct Problem {
 // A drawn program: one graph per function, as numbers.
 pub type Drawing = [u32; drawn::END];
 
-// Why an operation refuses, each with its place. In the order of their numbers, 1 to 23.
+// Why an operation refuses, each with its place. In the order of their numbers, 1 to 22.
 #[derive(Drop)]
 pub enum Refusal {
     EndsEarly(u64),
@@ -88,7 +88,6 @@ pub enum Refusal {
     LastCalls(u64),
     UnknownVertex(u64),
     NoSentence(u64),
-    ManyFunctions(u64),
 }
 
 // What a check without a result says.
@@ -275,7 +274,6 @@ pub fn number_of(refusal: Refusal) -> u32
         Refusal::LastCalls(_) => 20,
         Refusal::UnknownVertex(_) => 21,
         Refusal::NoSentence(_) => 22,
-        Refusal::ManyFunctions(_) => 23,
     }
 }
 
@@ -305,8 +303,7 @@ pub fn place_of(refusal: Refusal) -> u64
         | Refusal::CountPassed(at)
         | Refusal::LastCalls(at)
         | Refusal::UnknownVertex(at)
-        | Refusal::NoSentence(at)
-        | Refusal::ManyFunctions(at) => at,
+        | Refusal::NoSentence(at) => at,
     }
 }
 
@@ -337,8 +334,7 @@ pub fn refusal_of(number: u32, at: u64) -> Refusal
         19 => Refusal::CountPassed(at),
         20 => Refusal::LastCalls(at),
         21 => Refusal::UnknownVertex(at),
-        22 => Refusal::NoSentence(at),
-        _ => Refusal::ManyFunctions(at),
+        _ => Refusal::NoSentence(at),
     }
 }
 

@@ -22,7 +22,7 @@ pub const MOST_GROUPED: usize = 8;
 pub const MOST_BOUND: u64 = 1_000_000_000_000_000_000;
 
 // The last refusal's number, and the greatest place of one.
-pub const LAST_REFUSAL: u32 = 23;
+pub const LAST_REFUSAL: u32 = 22;
 
 pub const MOST_PLACE: u64 = 18_446_744_073_709_551_615;
 

@@ -5,7 +5,7 @@ ghost use Rattle.model.specs.Sentences.{phrase};
 ghost use Rattle.phrases.specs.Joined.{joined};
 
 // The bytes of all phrases.
-const LENGTH: usize = 1178;
+const LENGTH: usize = 1125;
 
 pub type Table = [u8; LENGTH];
 
@@ -31,11 +31,10 @@ const PHRASES: Table = *b"the file ends before a number does; its length is \
     the whole graph would pass a count; its place is \
     the last vertex of a graph calls; its function is \
     the vertex is unknown; its number is \
-    the text is no such sentence; the first byte that does not fit is at \
-    there are more than eight functions; their number is ";
+    the text is no such sentence; the first byte that does not fit is at ";
 
 // Where each phrase begins, and where the last one ends.
-const STARTS: [usize; 24] = [
+const STARTS: [usize; 23] = [
     0, 50, 93, 132, 180, 225, 280, 349, 380, 432, 476, 541, 578, 642, 683, 756, 825, 868, 920, 969,
     1019, 1056, 1125, 1178,
 ];
