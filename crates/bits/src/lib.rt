@@ -1,4 +1,6 @@
 // Words as sets, their members the bits that are set. Laws of the members after `|`, `&`, `^`, `<<` and `>>` stand in proofs/.
+#![tactic(auto)]
+
 ghost use Rattle.std.specs.Prelude.{◌≡◌, ◌⊎◌, ◌↔◌, ℕ, ◌≤◌, ◌<◌, length};
 ghost use Rattle.model.specs.Results.{Member};
 ghost use Rattle.bits.specs.Tests.{has};

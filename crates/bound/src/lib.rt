@@ -1,4 +1,6 @@
 // Bound: the smaller of two totals, the greatest visit charges over all lawful walks plus the first loads, and the greatest second total.
+#![tactic(auto)]
+
 ghost use Rattle.std.specs.Prelude.{◌≡◌};
 ghost use Rattle.model.specs.Numbers.{problem_of};
 ghost use Rattle.model.specs.Layouts.{need_of};

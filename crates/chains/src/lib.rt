@@ -1,4 +1,6 @@
 // Edges by where they lead and loops by what they hold, as chains: from a vertex's last one back to its first.
+#![tactic(auto)]
+
 ghost use Rattle.std.specs.Prelude.{◌≤◌, ◌<◌, ◌≡◌, length};
 ghost use Rattle.model.specs.Operations.{Checked};
 ghost use Rattle.model.specs.Places.{most_vertices};

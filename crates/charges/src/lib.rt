@@ -1,5 +1,7 @@
 // Contested vertices as flags, each 0 or 1, from a table of what regions may hold; and visit charges by flags of entered and of contested vertices. A problem is
 // its checked numbers.
+#![tactic(auto)]
+
 ghost use Rattle.std.specs.Prelude.{◌≡◌, cond, ◌*◌, ◌≤◌, ◌<◌, length, replicate};
 ghost use Rattle.model.specs.Numbers.{problem_of};
 ghost use Rattle.model.specs.Operations.{Checked};

@@ -1,4 +1,6 @@
 // Request 9/14, worked: bounds and runs with check costs, files of both editions as they are written back, and where records with check costs are refused.
+#![tactic(auto)]
+
 mod show;
 
 use model::{Problem, limits};

@@ -1,4 +1,6 @@
 // A problem's own checks, on its numbers: every operation on a problem begins with these.
+#![tactic(auto)]
+
 ghost use Rattle.std.specs.Prelude.{◌≡◌};
 ghost use Rattle.model.specs.declared.FieldsAnswer.TheVariants.{Done};
 ghost use Rattle.model.specs.File.{check_fields};

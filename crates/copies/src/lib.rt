@@ -1,4 +1,6 @@
 // An inlined drawing's functions and vertices among the numbers of its one problem: the functions as drawn, and each row's function and own cost.
+#![tactic(auto)]
+
 ghost use Rattle.std.specs.Prelude.{◌≡◌, ◌≤◌, take};
 ghost use mathlib.Core.List.{flat_map};
 ghost use Rattle.std.proofs.lemmas.List.Edits.{sets};

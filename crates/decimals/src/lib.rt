@@ -1,4 +1,6 @@
 // Numbers in decimal, without leading zeros, and texts, written into a lent buffer.
+#![tactic(auto)]
+
 ghost use Rattle.std.specs.Prelude.{◌≡◌, ◌++◌, ◌+◌, ◌≤◌, length};
 ghost use Rattle.model.specs.Decimals.{decimal};
 ghost use Rattle.decimals.specs.Digits.{most_digits};

@@ -1,5 +1,7 @@
 // How many steps lead from each vertex, in each phase, to a goal: a search back from the goal along the edges, first come first served. A problem is
 // its checked numbers.
+#![tactic(auto)]
+
 ghost use Rattle.std.specs.Prelude.{◌≤◌, ◌<◌, get_or};
 ghost use Rattle.model.specs.Numbers.{problem_of};
 ghost use Rattle.model.specs.Operations.{Checked};

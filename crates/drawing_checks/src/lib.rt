@@ -1,4 +1,6 @@
 // The checks of a drawing before its counts: its head, its graphs, its last vertices and its calls.
+#![tactic(auto)]
+
 ghost use Rattle.std.specs.Prelude.{◌≡◌};
 ghost use Rattle.model.specs.Graph.{and_then};
 ghost use Rattle.model.specs.Inlined.{judge_head, judge_graphs, judge_last, judge_calls};

@@ -1,4 +1,6 @@
 // Reading a drawing. What a drawing is like whose graphs pass document 01's checks is in proofs/.
+#![tactic(auto)]
+
 ghost use Rattle.std.specs.Prelude.{◌≡◌, ◌<◌};
 ghost use Rattle.model.specs.Places as spot;
 ghost use Rattle.model.specs.Drawings.{drawn_scratchpad, drawn_functions, drawn_at, drawn_item, drawn_width, drawn_count, drawn_edges, drawn_loops, drawn_edge, drawn_loop, callee_of};

@@ -1,4 +1,6 @@
 // The calls of a drawing: that no graph's last vertex calls, and that no function can reach itself by calls.
+#![tactic(auto)]
+
 ghost use Rattle.std.specs.Prelude.{◌≡◌, ◌&&◌, ◌||◌, ℕ, ◌≤◌, ◌<◌, length};
 ghost use Rattle.std.proofs.Math.Option.{some};
 ghost use Rattle.model.specs.declared.Refusal.TheVariants as refusal;

@@ -1,4 +1,6 @@
 // The head and the graphs of a drawing: each function's graph as document 01 checks a problem, with the function as place.
+#![tactic(auto)]
+
 ghost use Rattle.std.specs.Prelude.{◌≡◌, ◌&&◌, ◌≤◌, ◌<◌, min, leb, replicate};
 ghost use Rattle.model.specs.Places as spot;
 ghost use Rattle.model.specs.Numbers.{function_numbers, vertex_numbers, edge_numbers, loop_numbers, table};

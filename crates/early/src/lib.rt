@@ -1,5 +1,7 @@
 // Early vertices and the functions that they bring, from the flags of contested vertices and a table of first reach; and what such functions' loads cost.
 // A problem is its checked numbers.
+#![tactic(auto)]
+
 ghost use Rattle.std.specs.Prelude.{◌≡◌, ◌≤◌, ◌<◌};
 ghost use Rattle.model.specs.Numbers.{problem_of};
 ghost use Rattle.model.specs.Operations.{Checked};

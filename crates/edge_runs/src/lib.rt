@@ -1,5 +1,7 @@
 // Runs of edges. Most of a large file is edges, so those that are sure to pass are taken at once: behind the list's first edge and before its last, in range and
 // ascending. Most are a byte a number; padded ones are read one by one. What ends a run is left to the steps from field to field.
+#![tactic(auto)]
+
 ghost use Rattle.std.specs.Prelude.{◌≡◌, ◌+◌, ◌*◌, ◌≤◌, ◌<◌, true};
 ghost use Rattle.model.specs.File.{number_count};
 ghost use Rattle.model.specs.Places as spot;

@@ -1,4 +1,6 @@
 // Rules 8 and 9 of document 01: edges into loops and back to their headers. The loops around a vertex are a word, of which bit i stands for loop i.
+#![tactic(auto)]
+
 ghost use Rattle.std.specs.Prelude.{◌≡◌, ◌≤◌, length};
 ghost use Rattle.model.specs.Places.{most_vertices};
 ghost use Rattle.model.specs.Graph.{edge, loop, wrong_edge, no_return, broken, and_then};

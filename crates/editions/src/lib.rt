@@ -1,4 +1,6 @@
 // A field as an edition spells it: read, measured and written. An edition 1 file has no byte for a check cost, which is 0 then.
+#![tactic(auto)]
+
 ghost use Rattle.std.specs.Prelude.{◌≡◌, ◌+◌, ◌≤◌, length};
 ghost use Rattle.std.proofs.lemmas.List.Edits.{sets};
 ghost use Rattle.model.specs.File.{read_field, field_size, field_bytes};

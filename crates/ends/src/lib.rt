@@ -1,4 +1,6 @@
 // The vertices where loops end, as a set of two words: bit v of the low word stands for vertex v, and bit v of the high word for vertex v + 64.
+#![tactic(auto)]
+
 ghost use Rattle.std.specs.Prelude.{◌≡◌, ◌&&◌, ◌-◌, ◌≤◌, ◌<◌, leb};
 ghost use Rattle.model.specs.Places.{most_vertices};
 ghost use Rattle.model.specs.Search.{exists_below};

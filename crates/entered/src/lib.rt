@@ -1,4 +1,6 @@
 // Entered vertices as flags, each 0 or 1, in one pass over the edges. A problem is its checked numbers.
+#![tactic(auto)]
+
 ghost use Rattle.std.specs.Prelude.{◌≡◌, cond, ◌<◌, length};
 ghost use Rattle.model.specs.Numbers.{problem_of};
 ghost use Rattle.model.specs.Graph.{edges_of};

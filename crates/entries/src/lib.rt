@@ -1,4 +1,6 @@
 // Rule 6 of document 01: every vertex but 0 has an edge from a lower vertex, and every vertex but the last has an edge out.
+#![tactic(auto)]
+
 ghost use Rattle.std.specs.Prelude.{◌≡◌, not, ◌&&◌, ◌≤◌, length, eqb, ltb};
 ghost use Rattle.model.specs.Graph.{lacks, broken};
 ghost use Rattle.model.specs.declared.Refusal.TheVariants.{MissingEdge};

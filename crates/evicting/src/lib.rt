@@ -1,4 +1,6 @@
 // Which function evicts: the lowest of a region that comes between two visits to another. A problem is its checked numbers.
+#![tactic(auto)]
+
 ghost use Rattle.std.specs.Prelude.{◌≡◌, ◌<◌, min};
 ghost use Rattle.model.specs.Numbers.{problem_of};
 ghost use Rattle.evicting.specs.Evicting.{Sharing, Named, Lowest};

@@ -1,4 +1,6 @@
 // Eviction: why a vertex pays its load, and the shortest walk that shows it.
+#![tactic(auto)]
+
 ghost use Rattle.model.specs.Numbers.{problem_of};
 ghost use Rattle.model.specs.Operations.{Checked};
 ghost use Rattle.model.specs.Results.{EvictionSays, EvictionFits};

@@ -1,5 +1,7 @@
 // The worked cases of request 5/14: of each vertex why it pays its load, and the shortest walk that shows it. Then the readings that a walk tells apart, the
 // longest walk, and the refusals.
+#![tactic(auto)]
+
 mod longest;
 mod show;
 

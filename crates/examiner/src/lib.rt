@@ -1,4 +1,6 @@
 // The library for C and Rust callers: an operation an export. Each answers 0, or the refusal's number with its place in answer[0].
+#![tactic(auto)]
+
 ghost use Rattle.std.specs.Prelude.{◌≡◌, length};
 ghost use Rattle.model.specs.Operations.{written_buffer};
 ghost use Rattle.outcomes.specs.Outcomes.{status, answer_after, Right};

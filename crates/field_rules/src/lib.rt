@@ -1,4 +1,6 @@
 // What may stand at a field of the problem file: the range of a number, and the order of a list's items.
+#![tactic(auto)]
+
 ghost use Rattle.std.specs.Prelude.{◌≡◌, ◌<◌};
 ghost use Rattle.fields.specs.Valid.{Placed};
 ghost use Rattle.fields.specs.Rows.{entries};

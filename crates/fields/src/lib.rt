@@ -1,4 +1,6 @@
 // The field table of the problem file, and going through its fields in order. Reading and writing alike use these.
+#![tactic(auto)]
+
 ghost use Rattle.std.specs.Prelude.{◌≡◌, ◌+◌, ◌<◌, get_or};
 ghost use Rattle.fields.specs.Valid.{Placed};
 ghost use Rattle.fields.specs.Rows.{columns, entry, entries};

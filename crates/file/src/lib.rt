@@ -1,4 +1,6 @@
 // Read and Write: the problem file and the problem in memory.
+#![tactic(auto)]
+
 ghost use Rattle.std.specs.Prelude.{◌≡◌, length, replicate};
 ghost use Rattle.model.specs.declared.Problem.{Problem};
 ghost use Rattle.model.specs.declared.FieldsAnswer.TheVariants.{Done};

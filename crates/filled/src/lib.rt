@@ -1,4 +1,6 @@
 // Layouts filled in: each function beyond the layout's end gets, in turn, the lowest region that no earlier function has.
+#![tactic(auto)]
+
 ghost use Rattle.std.specs.Prelude.{◌≡◌, not, ◌≤◌, min, length};
 ghost use Rattle.model.specs.Limits.{most_regions};
 ghost use Rattle.model.specs.Places.{most_functions};

@@ -1,5 +1,7 @@
 // The worked cases of request 3/14, each as Bound's four numbers: where either total is the smaller, where vertex 0 is a header, and where a loop holds
 // several early functions and an inner loop. Then totals next to the limit. Layouts are empty, so that each function has a region of its own.
+#![tactic(auto)]
+
 use model::{BoundAnswer, Problem};
 use prints::{number, text};
 

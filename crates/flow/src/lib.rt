@@ -1,4 +1,6 @@
 // What the flows over a problem's edges share: where the edges from each vertex begin. What a flow is, and that it comes to rest, is in specs/ and proofs/.
+#![tactic(auto)]
+
 ghost use Rattle.std.specs.Prelude.{◌≡◌, max, length};
 ghost use Rattle.model.specs.Numbers.{problem_of};
 ghost use Rattle.model.specs.Graph.{edges_of};

@@ -1,4 +1,6 @@
 // The walk that always takes the lowest vertex one step nearer to the goal, written to a lent buffer. A problem is its checked numbers.
+#![tactic(auto)]
+
 ghost use Rattle.std.specs.Prelude.{length};
 ghost use Rattle.model.specs.Numbers.{problem_of};
 ghost use Rattle.following.specs.Following.{Seekable, Lowest, Followable, Followed};

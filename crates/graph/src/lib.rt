@@ -1,4 +1,6 @@
 // Rules 6 to 9 of document 01: the graph, judged on a problem's numbers, which stand at fixed places.
+#![tactic(auto)]
+
 ghost use Rattle.std.specs.Prelude.{◌≡◌, ◌-◌, ◌≤◌, take};
 ghost use Rattle.model.specs.Places.{most_loops};
 ghost use Rattle.model.specs.Graph.{judge_graph};

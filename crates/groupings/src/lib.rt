@@ -1,1 +1,3 @@
 // The groupings of up to eight functions, in order.
+#![tactic(auto)]
+

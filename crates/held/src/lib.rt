@@ -1,5 +1,7 @@
 // What the regions may hold as a walk arrives at each vertex, by data flow over the edges until nothing changes. A set of functions is a word, its members
 // the word's bits.
+#![tactic(auto)]
+
 ghost use Rattle.std.specs.Prelude.{◌≡◌, ◌<◌, length};
 ghost use Rattle.model.specs.Numbers.{problem_of};
 ghost use Rattle.model.specs.Operations.{Checked};

@@ -1,4 +1,6 @@
 // Inline: a drawn program, one graph per function, becomes one problem.
+#![tactic(auto)]
+
 ghost use Rattle.std.specs.Prelude.{◌≡◌, replicate};
 ghost use Rattle.model.specs.File.{number_count};
 ghost use Rattle.model.specs.Inlined.{inline_drawing};

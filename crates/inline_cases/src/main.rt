@@ -1,5 +1,7 @@
 // Drawings D1 to D6: the one problem of each (a vertex as its function and its own cost), and under some layouts the bound and the cycles of a walk that takes
 // as many as any. Then a drawing for each refusal of Inline. Functions are of one byte, and those of D1 to D6 have load costs 5, 3 and 4.
+#![tactic(auto)]
+
 mod draw;
 mod refused;
 mod show;

@@ -1,4 +1,6 @@
 // The greatest weight over all lawful walks, of a charge at each visit and one at each entry of a loop: found a vertex and a loop's iteration at a time.
+#![tactic(auto)]
+
 ghost use Rattle.std.specs.Prelude.{◌<◌, length};
 ghost use Rattle.model.specs.Numbers.{problem_of};
 ghost use Rattle.model.specs.Graph.{loop, loops_of};

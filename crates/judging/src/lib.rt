@@ -1,4 +1,6 @@
 // A problem's numbers judged field by field, as a file of them would be read.
+#![tactic(auto)]
+
 ghost use Rattle.std.specs.Prelude.{◌≡◌};
 ghost use Rattle.model.specs.File.{check_fields};
 

@@ -1,4 +1,6 @@
 // Layouts of document 01: the refusals 11 to 13. A problem is its checked numbers.
+#![tactic(auto)]
+
 ghost use Rattle.std.specs.Prelude.{◌≡◌};
 ghost use Rattle.model.specs.Numbers.{problem_of};
 ghost use Rattle.model.specs.Operations.{Checked};

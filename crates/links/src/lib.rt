@@ -1,4 +1,6 @@
 // The edges and the loops of an inlined drawing, stored among a problem's numbers.
+#![tactic(auto)]
+
 ghost use Rattle.std.specs.Prelude.{◌≡◌, ◌<◌, ◌≤◌, ◌-◌, ◌+◌, get_or, take, replicate, eqb};
 ghost use mathlib.Core.List.{List, ◌∷◌, [], flat_map};
 ghost use Rattle.model.specs.Search.{lowest_below};

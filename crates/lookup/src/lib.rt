@@ -1,4 +1,6 @@
 // The one door to a problem's numbers: readers by function, vertex, edge and loop, each equal to the problem's own.
+#![tactic(auto)]
+
 ghost use Rattle.std.specs.Prelude.{◌≡◌, ◌<◌, length};
 ghost use Rattle.model.specs.Numbers.{problem_of};
 ghost use Rattle.model.specs.Graph.{edge, loop, holds};

@@ -1,5 +1,7 @@
 // M1 to M9 of document 01, R with the greatest bound and past it, a layout that leaves functions off, and a problem where splitting a region raises the
 // bound: what Interference, Bound and Run give. M1 is part of Table I of document 003, which is printed whole.
+#![tactic(auto)]
+
 mod sets;
 mod show;
 

@@ -1,4 +1,6 @@
 // The problem of document 01 and what the operations answer. What they mean is in specs/.
+#![tactic(auto)]
+
 ghost use Rattle.std.specs.Prelude.{◌≡◌, ◌≤◌};
 ghost use Rattle.model.specs.Refusals.{last_refusal, number, place, refusal_of, placed_at, Refuses};
 ghost use Rattle.model.specs.declared.Verdict.TheVariants.{Refused};

@@ -1,4 +1,6 @@
 // A problem's numbers at fixed places in file order, from its record and from its fields.
+#![tactic(auto)]
+
 ghost use Rattle.std.specs.Prelude.{◌≡◌, ◌∷◌, min, set};
 ghost use Rattle.model.specs.Places as spot;
 ghost use Rattle.model.specs.Graph.{functions_of};

@@ -1,4 +1,6 @@
 // What the edges to a vertex offer it: the numbers of a vertex, of entering a loop and of a loop's iteration, kept up to a cap.
+#![tactic(auto)]
+
 ghost use Rattle.std.specs.Prelude.{◌≡◌, ◌≤◌, ◌<◌, length};
 ghost use Rattle.model.specs.Graph.{loop};
 ghost use Rattle.model.specs.Places.{most_vertices};

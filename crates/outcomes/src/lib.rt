@@ -1,5 +1,7 @@
 // How an export's caller is told: the number returned is 0, and `answer` begins with the result's numbers; or it is the refusal's number, and answer[0] is
 // the refusal's place.
+#![tactic(auto)]
+
 ghost use Rattle.std.specs.Prelude.{◌<◌, ◌≡◌, [], ◌∷◌};
 ghost use Rattle.std.proofs.lemmas.List.Edits.{sets};
 ghost use Rattle.model.specs.Numbers.{problem_of};

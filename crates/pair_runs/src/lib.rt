@@ -1,5 +1,7 @@
 // Runs of items of two numbers: vertices, in no order, and edges that are not a byte a number. As with edges that are, those that are sure to pass
 // are taken at once, behind one another and before the list's last; what ends a run is left to the steps from field to field.
+#![tactic(auto)]
+
 ghost use Rattle.std.specs.Prelude.{◌≡◌, true};
 ghost use Rattle.fields.specs.Rows.{entries};
 ghost use Rattle.edge_runs.specs.Edges.{Readable, PairsRead, AtItem, ItemTaken};

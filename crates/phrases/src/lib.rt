@@ -1,4 +1,6 @@
 // The phrases of the sentences in memory: one after another, and where each begins.
+#![tactic(auto)]
+
 ghost use Rattle.std.specs.Prelude.{◌≡◌, ◌≤◌};
 ghost use Rattle.model.specs.Refusals.{last_refusal};
 ghost use Rattle.model.specs.Sentences.{phrase};

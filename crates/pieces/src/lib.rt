@@ -1,4 +1,6 @@
 // Reading a text piece by piece: fixed words and a decimal number, each at a position.
+#![tactic(auto)]
+
 ghost use Rattle.std.specs.Prelude.{◌≡◌, ◌≤◌, length, drop};
 ghost use Rattle.grammar.specs.Numerals.{opens as Numerals·opens, fits as Numerals·fits};
 ghost use Rattle.pieces.specs.Pieces.{pass_words, read_value};

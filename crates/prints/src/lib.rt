@@ -1,4 +1,6 @@
 // What the programs of the gate print: texts, and numbers behind a label.
+#![tactic(auto)]
+
 use libc::STDOUT_FILENO;
 
 pub fn text(words: &[u8]) {

@@ -1,5 +1,7 @@
 // The loops' ranges: rule 7 of document 01, and marks of where they start and end, for the rules on edges. The loops come as a lent list. What takes
 // the list is proved by hand, so it only reads, counts and calls; what it calls takes numbers.
+#![tactic(auto)]
+
 ghost use Rattle.std.specs.Prelude.{◌≡◌, ◌||◌, ◌<◌, length};
 ghost use Rattle.model.specs.Places.{most_vertices, most_loops};
 ghost use Rattle.model.specs.Search.{lowest_below};

@@ -1,4 +1,6 @@
 // First reach, by data flow over the edges until nothing changes: with which functions not yet visited a walk may arrive at each vertex.
+#![tactic(auto)]
+
 ghost use Rattle.std.specs.Prelude.{◌≡◌, ◌<◌, length};
 ghost use Rattle.model.specs.Numbers.{problem_of};
 ghost use Rattle.model.specs.Operations.{Checked};

@@ -1,4 +1,6 @@
 // The problem that numbers at fixed places say, as a record.
+#![tactic(auto)]
+
 ghost use Rattle.std.specs.Prelude.{◌≡◌};
 ghost use Rattle.model.specs.Places as spot;
 ghost use Rattle.model.specs.Numbers.{table, function_at, vertex_at, edge_at, loop_at, problem_of};

@@ -1,4 +1,6 @@
 // The regions of a layout that leaves no function off: the region of each function, and the bytes that the layout needs. A problem is its checked numbers.
+#![tactic(auto)]
+
 ghost use Rattle.std.specs.Prelude.{◌≡◌, ◌<◌, length};
 ghost use Rattle.model.specs.Limits.{most_regions};
 ghost use Rattle.model.specs.Numbers.{problem_of};

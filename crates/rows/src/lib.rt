@@ -1,4 +1,6 @@
 // The rows of an inlined drawing, which are the vertices of its one problem in order: each row tells the next.
+#![tactic(auto)]
+
 ghost use Rattle.std.specs.Prelude.{◌≡◌, ◌-◌};
 ghost use Rattle.model.specs.Drawings.{called_by};
 ghost use Rattle.model.specs.Inlining.{after};

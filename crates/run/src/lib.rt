@@ -1,4 +1,6 @@
 // Run: a walk, judged and simulated from an empty scratchpad.
+#![tactic(auto)]
+
 ghost use Rattle.std.specs.Prelude.{◌≡◌};
 ghost use Rattle.model.specs.Numbers.{problem_of};
 ghost use Rattle.model.specs.Operations.{Checked};

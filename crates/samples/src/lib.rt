@@ -1,4 +1,6 @@
 // The worked problems P, Q and R of document 01, with check costs too, two of request 3/14, and S, where splitting a region raises the bound: each from its numbers in file order.
+#![tactic(auto)]
+
 ghost use Rattle.std.specs.Prelude.{◌+◌, ◌≤◌, ◌≡◌, [], ◌∷◌, length};
 ghost use Rattle.std.proofs.lemmas.List.Edits.{sets};
 ghost use Rattle.model.specs.Places as spot;

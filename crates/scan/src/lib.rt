@@ -1,4 +1,6 @@
 // The problem file read field by field into a problem's numbers.
+#![tactic(auto)]
+
 ghost use Rattle.std.specs.Prelude.{◌≡◌, length, ℕ, ◌<◌, true};
 ghost use Rattle.model.specs.File.{number_count, first_field, scanned, read_from};
 ghost use Rattle.model.specs.File.{next_field, item_start};

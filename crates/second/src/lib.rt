@@ -1,4 +1,6 @@
 // The second total's tables: which visits are charged a load, and what entering each loop is charged. A problem is its checked numbers.
+#![tactic(auto)]
+
 ghost use Rattle.std.specs.Prelude.{◌≡◌, ◌<◌, length};
 ghost use Rattle.model.specs.Numbers.{problem_of};
 ghost use Rattle.model.specs.Operations.{Checked};

@@ -1,4 +1,6 @@
 // The worked cases of request 8/14: every sentence once, Word's refusals, and texts with what they read as.
+#![tactic(auto)]
+
 use model::{Reason, Refusal, Remark, limits};
 
 mod show;

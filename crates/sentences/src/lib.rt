@@ -1,4 +1,6 @@
 // **Word** and **Read-sentence**: a remark as its sentence, and a sentence as the remark it came from.
+#![tactic(auto)]
+
 ghost use Rattle.std.specs.Prelude.{◌≡◌, length};
 ghost use Rattle.model.specs.declared.Remark.TheVariants.{Explained};
 ghost use Rattle.model.specs.Sentences.{judge_remark, judge_room, word_remark, worded_buffer, ReadsAs};

@@ -1,4 +1,6 @@
 // Interference sets, by data flow over the edges until nothing changes. A set of functions is a word, its members the word's bits.
+#![tactic(auto)]
+
 ghost use Rattle.std.specs.Prelude.{◌≡◌, ◌<◌, length};
 ghost use Rattle.model.specs.Numbers.{problem_of};
 ghost use Rattle.model.specs.Operations.{Checked};

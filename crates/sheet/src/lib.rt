@@ -1,4 +1,6 @@
 // The mark sheet: what Read and Bound say of a problem file from an open input and of a layout from a file by name, in print.
+#![tactic(auto)]
+
 mod fill;
 mod front;
 mod show;

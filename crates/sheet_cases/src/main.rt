@@ -1,6 +1,8 @@
 // The mark sheets of stored problem files and layouts. The arguments list the cases, three a case: a title, the problem file and the layout's file. There
 // are accepted ones, numbers up to the bound's limit, a refusal of each stage of Read and of Bound, files longer than there is room for (long.bin is M10 with
 // zeros after it), and a folder, which opens and then cannot be read: a sheet that needs it is empty.
+#![tactic(auto)]
+
 use libc::STDOUT_FILENO;
 
 // Room for a title or a name.

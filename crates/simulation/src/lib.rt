@@ -1,5 +1,7 @@
 // A walk, run visit by visit from empty regions: one pass over the entries, which looks up in tables what it asks of a vertex and takes no branch that is
 // as hard to foresee as the walk.
+#![tactic(auto)]
+
 ghost use Rattle.std.specs.Prelude.{◌≡◌, reverse, cond, ◌≤◌, ◌<◌, get_or, eqb};
 ghost use Rattle.model.specs.Places.{most_vertices};
 ghost use Rattle.model.specs.Numbers.{problem_of};

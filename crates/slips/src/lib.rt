@@ -1,4 +1,6 @@
 // The slip that `marksheet` prints, rendered into a lent buffer.
+#![tactic(auto)]
+
 ghost use Rattle.std.specs.Prelude.{◌+◌, ◌≤◌, ◌++◌, length};
 ghost use Rattle.model.specs.Decimals.{decimal};
 ghost use Rattle.model.specs.Slips.{refusal_line, result_lines, bound_slip};

@@ -1,4 +1,6 @@
 // One number of the problem file, read and written.
+#![tactic(auto)]
+
 ghost use Rattle.std.specs.Prelude.{◌≡◌, ◌+◌, ◌≤◌, ◌<◌, length};
 ghost use Rattle.std.proofs.lemmas.List.Edits.{sets};
 ghost use Rattle.model.specs.Spelling.{high_fifth, read_number, number_size, number_bytes};

@@ -1,4 +1,6 @@
 // What a stay in a loop adds to an edge that leaves it. Numbers are kept up to a cap.
+#![tactic(auto)]
+
 ghost use Rattle.std.specs.Prelude.{◌≡◌, ◌+◌, ◌*◌, ◌-◌, ◌≤◌, ◌<◌, min, length};
 ghost use Rattle.model.specs.Graph.{loop};
 ghost use Rattle.model.specs.Operations.{Checked};

@@ -1,4 +1,6 @@
 // The steps of a problem in a table, so that a step is looked up and not searched.
+#![tactic(auto)]
+
 ghost use Rattle.std.specs.Prelude.{◌≡◌, cond, ◌+◌, ◌*◌, ◌≤◌, get_or, ltb, leb};
 ghost use Rattle.model.specs.Places.{most_vertices};
 ghost use Rattle.model.specs.Numbers.{problem_of};

@@ -1,5 +1,7 @@
 // The greatest visit charges and the greatest second total over all lawful walks, exact up to the bound's limit. Entered, contested and early vertices are told
 // by flags and words.
+#![tactic(auto)]
+
 ghost use Rattle.model.specs.Numbers.{problem_of};
 ghost use Rattle.model.specs.Operations.{Checked};
 ghost use Rattle.model.specs.Charges.{visit_charge, charges, second_total};

@@ -1,4 +1,6 @@
 // Bound's answer from what pricing finds: the smaller of the greatest visit charges with the first loads and the greatest second total, held to the limit.
+#![tactic(auto)]
+
 ghost use Rattle.std.specs.Prelude.{◌≡◌, ◌+◌, ◌≤◌, min};
 ghost use Rattle.totals.specs.Totals.{totalled};
 

@@ -1,4 +1,6 @@
 // Runs the library on small files and problems, and prints for each what was run and what came out.
+#![tactic(auto)]
+
 mod fields;
 mod files;
 mod padded;

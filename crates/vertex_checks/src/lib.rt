@@ -1,4 +1,6 @@
 // The check of an operation on one vertex: 21, the vertex is unknown. Its number may be any.
+#![tactic(auto)]
+
 ghost use Rattle.std.specs.Prelude.{◌≡◌};
 ghost use Rattle.model.specs.Numbers.{problem_of};
 ghost use Rattle.model.specs.Verdicts.{judge_vertex};

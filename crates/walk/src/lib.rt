@@ -1,5 +1,7 @@
 // A walk, judged entry by entry (15 and 16): one pass over the entries, which looks up in tables what it asks of a vertex and takes no branch that is as
 // hard to foresee as the walk.
+#![tactic(auto)]
+
 ghost use Rattle.std.specs.Prelude.{◌≡◌, []};
 ghost use Rattle.model.specs.Numbers.{problem_of};
 ghost use Rattle.model.specs.Operations.{Checked};

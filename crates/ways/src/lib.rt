@@ -1,5 +1,7 @@
 // Ways to a vertex in two phases: what a table of steps is, and the phase after a visit. The laws: numbers of steps that are at rest are exact, a walk that
 // always takes the lowest vertex one nearer is the one asked for, and what the numbers tell of interference and first reach.
+#![tactic(auto)]
+
 ghost use Rattle.std.specs.Prelude.{◌≡◌};
 ghost use Rattle.ways.specs.Ways.{phase_after};
 

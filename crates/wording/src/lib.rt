@@ -1,4 +1,6 @@
 // A remark's sentence, written into room for any.
+#![tactic(auto)]
+
 ghost use Rattle.std.specs.Prelude.{◌+◌, ◌≤◌, ◌++◌, length};
 ghost use Rattle.model.specs.declared.Remark.TheVariants.{Refused, Explained};
 ghost use Rattle.model.specs.Refusals.{last_refusal, refusal_of};

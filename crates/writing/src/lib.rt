@@ -1,4 +1,6 @@
 // The file of a problem's numbers, written field by field.
+#![tactic(auto)]
+
 ghost use Rattle.std.specs.Prelude.{◌≡◌};
 ghost use Rattle.std.proofs.lemmas.List.Edits.{sets};
 ghost use Rattle.model.specs.File.{check_fields, file_bytes};
