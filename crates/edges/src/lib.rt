@@ -50,7 +50,7 @@ fn is_wrong(into: u32, out: u32, heads: u32, from: usize, to: usize) -> bool
 }
 
 // What the edges tell: the lowest wrong one, or if there is none the loops that they return to.
-#[derive(Drop)]
+#[derive(Clone, Copy)]
 enum EdgesAnswer {
     Wrong(usize),
     Returns(u32),

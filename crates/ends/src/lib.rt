@@ -10,7 +10,7 @@ ghost use Rattle.ends.specs.Sets.{half, no_ends, with_end, ends_between};
 // How many vertices a word stands for.
 const HALF: usize = 64;
 
-#[derive(Drop)]
+#[derive(Clone, Copy)]
 pub struct Ends {
     low: u64,
     high: u64,

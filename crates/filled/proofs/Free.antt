@@ -29,12 +29,14 @@ remove_shorter x (y ∷ ys) m =
     further : Memᴰ x (y ∷ ys) → (x ≡ y → ⊥) → Memᴰ x ys
     further (Memᴰ.head q) ne = absurd (ne q)
     further (Memᴰ.tail t) ne = t
+remove_shorter x [] m = elim m [ ]
 
 remove_keeps : (x r : ℕ) (rs : List ℕ) → Memᴰ r rs → (x ≡ r → ⊥) → Memᴰ r (remove x rs)
 unfolding remove
 remove_keeps x r (y ∷ ys) (Memᴰ.head q) ne = rw (ne_eqb x y (λ z. ne (z ∙ sym q))) (Memᴰ.head q)
 remove_keeps x r (y ∷ ys) (Memᴰ.tail t) ne =
     by_bool (eqb x y) (λ e. rw e t) (λ e. rw e (Memᴰ.tail (remove_keeps x r ys t ne)))
+remove_keeps x r [] x3 ne = elim x3 [ ]
 
 -- A list that has every number below n has n items.
 covers : (n : ℕ) (rs : List ℕ) → ((r : ℕ) → r < n → Memᴰ r rs) → n ≤ length rs

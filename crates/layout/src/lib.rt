@@ -11,7 +11,7 @@ ghost use Rattle.layout.specs.Answers.{layout_answer, layout_verdict};
 use model::{Bytes, Numbers, Refusal, Verdict, limits};
 
 // What judging a layout says: the bytes that it needs, which the scratchpad has, or the refusal.
-#[derive(Drop)]
+#[derive(Clone, Copy)]
 pub enum LayoutAnswer {
     Fits(Bytes),
     Refused(Refusal),

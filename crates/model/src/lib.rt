@@ -12,33 +12,33 @@ pub mod rows;
 pub mod units;
 
 // Sizes count bytes, costs count cycles; no sum takes one of each.
-#[derive(Drop)]
+#[derive(Clone, Copy)]
 pub struct Bytes(pub u64);
 
-#[derive(Drop)]
+#[derive(Clone, Copy)]
 pub struct Cycles(pub u64);
 
-#[derive(Drop)]
+#[derive(Clone, Copy)]
 pub struct Function {
     pub size: Bytes,
     pub load: Cycles,
     pub check: Cycles,
 }
 
-#[derive(Drop)]
+#[derive(Clone, Copy)]
 pub struct Vertex {
     pub function: usize,
     pub cost: Cycles,
 }
 
-#[derive(Drop)]
+#[derive(Clone, Copy)]
 pub struct Edge {
     pub from: usize,
     pub to: usize,
 }
 
 // A loop's range is header to last, both counted.
-#[derive(Drop)]
+#[derive(Clone, Copy)]
 pub struct Loop {
     pub header: usize,
     pub last: usize,
@@ -66,7 +66,7 @@ pub struct Problem {
 pub type Drawing = [u32; drawn::END];
 
 // Why an operation refuses, each with its place. In the order of their numbers, 1 to 22.
-#[derive(Drop)]
+#[derive(Clone, Copy)]
 pub enum Refusal {
     EndsEarly(u64),
     Misspelt(u64),
@@ -93,14 +93,14 @@ pub enum Refusal {
 }
 
 // What a check without a result says.
-#[derive(Drop)]
+#[derive(Clone, Copy)]
 pub enum Verdict {
     Accepted,
     Refused(Refusal),
 }
 
 // What reading one number finds: its value and the position after it, or why there is none.
-#[derive(Drop)]
+#[derive(Clone, Copy)]
 pub enum Number {
     Value(u64, usize),
     Ended,
@@ -108,7 +108,7 @@ pub enum Number {
 }
 
 // A field of the file: its row of the field table, its place among a problem's numbers, and how many items of its list come after its own.
-#[derive(Drop)]
+#[derive(Clone, Copy)]
 pub struct Field {
     pub row: usize,
     pub place: usize,
@@ -116,7 +116,7 @@ pub struct Field {
 }
 
 // What going through the fields finds: the position after the last one, or the refusal.
-#[derive(Drop)]
+#[derive(Clone, Copy)]
 pub enum FieldsAnswer {
     Done(usize),
     Refused(Refusal),
@@ -131,21 +131,21 @@ pub enum ReadAnswer {
 }
 
 // Write's result: the bytes written.
-#[derive(Drop)]
+#[derive(Clone, Copy)]
 pub enum WriteAnswer {
     Written(usize),
     Refused(Refusal),
 }
 
 // Interference's result: the words filled.
-#[derive(Drop)]
+#[derive(Clone, Copy)]
 pub enum InterferenceAnswer {
     Filled(usize),
     Refused(Refusal),
 }
 
 // What Bound gives: bytes needed, number of contested vertices, what first loads add to the greatest visit charges, bound.
-#[derive(Drop)]
+#[derive(Clone, Copy)]
 pub struct Bound {
     pub need: Bytes,
     pub contested: usize,
@@ -154,28 +154,28 @@ pub struct Bound {
 }
 
 // Bound's result.
-#[derive(Drop)]
+#[derive(Clone, Copy)]
 pub enum BoundAnswer {
     Bounded(Bound),
     Refused(Refusal),
 }
 
 // What Run gives beside the regions, which it leaves in an array that its caller lends: cycles, and the loads counted as they occur.
-#[derive(Drop)]
+#[derive(Clone, Copy)]
 pub struct Run {
     pub cycles: Cycles,
     pub loads: u64,
 }
 
 // Run's result.
-#[derive(Drop)]
+#[derive(Clone, Copy)]
 pub enum RunAnswer {
     Ran(Run),
     Refused(Refusal),
 }
 
 // Why a vertex pays its load: on every visit, since the lowest function that comes between is this one; as a first load only; or never.
-#[derive(Drop)]
+#[derive(Clone, Copy)]
 pub enum Reason {
     EveryVisit(usize),
     FirstLoad,
@@ -183,14 +183,14 @@ pub enum Reason {
 }
 
 // What Eviction gives beside the walk, which it leaves in a buffer that its caller lends: the reason, and the walk's number of entries.
-#[derive(Drop)]
+#[derive(Clone, Copy)]
 pub struct Eviction {
     pub reason: Reason,
     pub count: usize,
 }
 
 // Eviction's result.
-#[derive(Drop)]
+#[derive(Clone, Copy)]
 pub enum EvictionAnswer {
     Shown(Eviction),
     Refused(Refusal),
@@ -198,7 +198,7 @@ pub enum EvictionAnswer {
 
 // What Best gives beside the regions, which it leaves in an array that its caller lends: the number of functions, which is that of the regions written, the
 // bytes that they need and their bound.
-#[derive(Drop)]
+#[derive(Clone, Copy)]
 pub struct Best {
     pub functions: usize,
     pub need: Bytes,
@@ -206,28 +206,28 @@ pub struct Best {
 }
 
 // Best's result.
-#[derive(Drop)]
+#[derive(Clone, Copy)]
 pub enum BestAnswer {
     Found(Best),
     Refused(Refusal),
 }
 
 // What a sentence says: a refusal, or why a vertex pays its load.
-#[derive(Drop)]
+#[derive(Clone, Copy)]
 pub enum Remark {
     Refused(Refusal),
     Explained(Reason),
 }
 
 // Word's result: the bytes written.
-#[derive(Drop)]
+#[derive(Clone, Copy)]
 pub enum WordAnswer {
     Worded(usize),
     Refused(Refusal),
 }
 
 // Read-sentence's result: the remark that the sentence came from.
-#[derive(Drop)]
+#[derive(Clone, Copy)]
 pub enum SentenceAnswer {
     Meant(Remark),
     Refused(Refusal),
@@ -235,7 +235,7 @@ pub enum SentenceAnswer {
 
 // A vertex of an inlined drawing: a vertex of a function's copy, and the number of the copy's first vertex. The call vertex of a copy is the one before its
 // first.
-#[derive(Drop)]
+#[derive(Clone, Copy)]
 pub struct Row {
     pub function: usize,
     pub vertex: usize,

@@ -15,7 +15,7 @@ use model::{Cycles, Numbers, places, units};
 use stays::VertexTable;
 
 // Which edges to a vertex count: all, those from outside a range, or those from inside. The numbers are the range's header and last vertex.
-#[derive(Drop)]
+#[derive(Clone, Copy)]
 pub enum Origin {
     Anywhere,
     Outside(usize, usize),

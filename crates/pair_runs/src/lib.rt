@@ -11,7 +11,7 @@ use fields::Table;
 use model::{Field, Number, Numbers, places, rows};
 
 // How many items a run has, and the position behind it.
-#[derive(Drop)]
+#[derive(Clone, Copy)]
 pub struct Run {
     pub items: usize,
     pub at: usize,

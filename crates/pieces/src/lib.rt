@@ -6,14 +6,14 @@ ghost use Rattle.grammar.specs.Numerals.{opens as Numerals·opens, fits as Numer
 ghost use Rattle.pieces.specs.Pieces.{pass_words, read_value};
 
 // How far fixed words stand in a text: all of them, with the position after them; or the first byte that differs, or the end.
-#[derive(Drop)]
+#[derive(Clone, Copy)]
 pub enum Words {
     Passed(usize),
     Stopped(usize),
 }
 
 // What reading a number finds: its value and the position after it.
-#[derive(Drop)]
+#[derive(Clone, Copy)]
 pub enum Digits {
     Value(u64, usize),
     Nothing,

@@ -61,7 +61,7 @@ fn is_bad(ends: Ends, header: usize, last: usize, end: usize) -> bool
 }
 
 // What is known of the ranges that are compared: the lowest bad one, or their number, and where they end.
-#[derive(Drop)]
+#[derive(Clone, Copy)]
 struct Compared {
     bad: usize,
     ends: Ends,

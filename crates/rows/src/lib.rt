@@ -14,14 +14,14 @@ use model::{Drawing, Row, drawn, places};
 pub const ROOM: usize = places::MOST_VERTICES + 1;
 
 // The rows are the first `count`.
-#[derive(Drop)]
+#[derive(Clone, Copy)]
 pub struct Rows {
     pub count: usize,
     pub rows: [Row; ROOM],
 }
 
 // What follows a row.
-#[derive(Drop)]
+#[derive(Clone, Copy)]
 pub enum Next {
     End,
     Behind(Row),

@@ -26,7 +26,7 @@ fn misread_at(number: Number, size: usize, at: usize) -> FieldsAnswer
 }
 
 // How far the fields are read: the next field, its position, and where its item started.
-#[derive(Drop)]
+#[derive(Clone, Copy)]
 struct Far {
     field: Field,
     at: usize,

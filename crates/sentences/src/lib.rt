@@ -57,7 +57,7 @@ fn judge_room(need: usize, room: usize) -> Verdict
 pub fn word(remark: Remark, text: &mut [u8]) -> WordAnswer
     ensures value { result ≡ word_remark remark (length text.old) }
     ensures text_after { text.new ≡ worded_buffer remark text.old }
-    ensures result_value { word_outcome result ≡ word_says remark (length text.old) }
+    ensures outcome { word_outcome result ≡ word_says remark (length text.old) }
 {
     let mut room = [0u8; limits::MOST_SENTENCE];
     let need = wording::write_remark(remark, &mut room);
@@ -76,7 +76,7 @@ pub fn word(remark: Remark, text: &mut [u8]) -> WordAnswer
 // **Read-sentence.** The remark whose sentence the text is, to the last byte; or 22, at the first byte that fits no continuation, or at the length. The first
 // byte tells the opening.
 pub fn read_sentence(text: &[u8]) -> SentenceAnswer
-    ensures reads_as_lem { ReadsAs text.now result }
+    ensures reads_as { ReadsAs text.now result }
     ensures understood { Understood text.now (sentence_outcome result) }
 {
     if text.len() == 0 {

@@ -4,7 +4,7 @@ ghost use Rattle.sheet.specs.Fronts.{Fills};
 use crate::show;
 
 // How many bytes a buffer was filled to, or that a read failed.
-#[derive(Drop)]
+#[derive(Clone, Copy)]
 pub enum BytesRead {
     To(usize),
     Failed,

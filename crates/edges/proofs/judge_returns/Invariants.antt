@@ -1,0 +1,19 @@
+-- `edges::judge_returns` refuses at the lowest loop that no edge returns to.
+use mathlib.Core.Path.{◌≡◌, ◌∙◌}
+use mathlib.Core.Bool.{not}
+use Rattle.lookup.proofs.Places.{loop_small}
+use Rattle.edges.proofs.Words.{lacking}
+use Prim.Native.Nat.{◌-◌}
+use native.Mathlib.Omega.{arith}
+use lib.ListN.{length}
+use Rattle.model.specs.declared.Refusal.TheVariants.{NoEdgeBack}
+use Rattle.model.specs.Graph.{loop, no_return}
+use Rattle.model.proofs.Search.{Searched, start, miss, broken_hit, broken_none}
+use Rattle.lookup.specs.Lists.{edges_in, loops_in}
+use Rattle.edges.proofs.judge_returns.Given as goal
+
+abbrev pub invariant-loop-j : goal.invariant-loop-j
+invariant-loop-j l = Searched (length (loops_in l.l)) (λ k. no_return (edges_in l.l) (loop (loops_in l.l) k)) l.j
+
+abbrev pub decreases-loop-j : goal.decreases-loop-j
+decreases-loop-j l = l.count - l.j

@@ -1,0 +1,34 @@
+-- `edges::judge_words` is its definition: rule 9 on the good case of rule 8, each told by the words.
+use mathlib.Core.Path.{refl, sym, ◌∙◌}
+use Prim.Native.Nat.{◌≤◌}
+use native.Mathlib.Omega.{arith}
+use Rattle.lookup.specs.Lists.{vertices_in, loops_in}
+use Rattle.lookup.proofs.Places.{few_vertices, from_below, to_below}
+use Rattle.ranges.specs.Ranges.{Ranged}
+use Rattle.ranges.proofs.Listed.{loops_ranged}
+use Rattle.edges.specs.Words.{Around}
+use Rattle.edges.proofs.Rules.{stops, goes}
+use Rattle.edges.proofs.Words.{headed_is, around_is, told_returned, wrong_says, returns_say}
+use Rattle.model.specs.Places as places
+use Rattle.edges.proofs.judge_words.Goals as goal
+
+pub around_of-around-requires : goal.around_of-around-requires
+around_of-around-requires c = omega (arith, c.vertex_count.ensures, few_vertices _ c.requires.fact_1)
+
+pub judge_edges-edges-requires : goal.judge_edges-edges-requires
+judge_edges-edges-requires c = record { fact_1 = c.requires.fact_1; fact_2 = (around_is (loops_ranged _ c.requires.fact_1) (few_vertices _ c.requires.fact_1) c.requires.fact_2 (rw c.vertex_count.ensures at c.around_of-around.ensures)); fact_3 = headed_is (loops_ranged _ c.requires.fact_1) (few_vertices _ c.requires.fact_1) c.requires.fact_2 }
+
+pub judge_returns-requires : goal.judge_returns-requires
+judge_returns-requires c =
+    let ok = c.requires.fact_1 in record {
+      fact_1 = ok;
+      fact_2 = told_returned _ (around_is (loops_ranged _ c.requires.fact_1) (few_vertices _ c.requires.fact_1) c.requires.fact_2 (rw c.vertex_count.ensures at c.around_of-around.ensures)) (headed_is (loops_ranged _ c.requires.fact_1) (few_vertices _ c.requires.fact_1) c.requires.fact_2) (from_below _ ok) (to_below _ ok)
+          (returns_say _ _ _ _ (sym c.in-Returns.is ∙ c.judge_edges-edges.ensures)).1;
+    }
+
+pub returns-in-Wrong : goal.returns-in-Wrong
+returns-in-Wrong c = stops _ (wrong_says _ _ _ _ (sym c.in-Wrong.is ∙ c.judge_edges-edges.ensures)) refl
+
+pub returns-in-Returns : goal.returns-in-Returns
+returns-in-Returns c =
+    c.judge_returns.ensures ∙ goes _ (returns_say _ _ _ _ (sym c.in-Returns.is ∙ c.judge_edges-edges.ensures)).0 refl

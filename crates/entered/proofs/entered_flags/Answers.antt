@@ -1,0 +1,37 @@
+use Prim.Native.Nat.{◌-◌, ◌≤◌, ◌<◌}
+use native.Mathlib.Omega.{arith}
+use lib.ListN.{length}
+use Rattle.model.specs.Numbers.{problem_of}
+use Rattle.model.specs.Graph.{edges_of}
+use Rattle.model.specs.Places as places
+use Rattle.model.proofs.Cases.{all_done}
+use Rattle.lookup.proofs.Places.{facts, to_small}
+use Rattle.entered.proofs.Marking.{Marked, none_marked, one_marked, all_marked}
+use Rattle.entered.proofs.entered_flags.Goals as goal
+
+pub edge_count-count-requires : goal.edge_count-count-requires
+edge_count-count-requires c = facts _ c.requires
+
+pub loop-i-init : goal.loop-i-init
+loop-i-init c = (omega arith, none_marked _)
+
+pub edge_to-to-requires : goal.edge_to-to-requires
+edge_to-to-requires c = record { fact_1 = facts _ c.requires; fact_2 = (omega (arith, c.loop-i-test.true, c.edge_count-count.ensures)) }
+
+pub bounds-flags-to : goal.bounds-flags-to
+bounds-flags-to c = omega (arith, c.edge_to-to.ensures, to_small _ (facts _ c.requires) c.loop-i.i (omega (arith, c.loop-i-test.true, c.edge_count-count.ensures)))
+
+pub is_crossing-requires : goal.is_crossing-requires
+is_crossing-requires c = record { fact_1 = c.requires; fact_2 = (omega (arith, c.loop-i-test.true, c.edge_count-count.ensures)) }
+
+pub bounds-flags-to-in-loop-i : goal.bounds-flags-to-in-loop-i
+bounds-flags-to-in-loop-i c = omega (arith, c.edge_to-to.ensures, to_small _ (facts _ c.requires) c.loop-i.i (omega (arith, c.loop-i-test.true, c.edge_count-count.ensures)))
+
+pub loop-i-preserved : goal.loop-i-preserved
+loop-i-preserved c =
+    let taken = c.loop-i-test.true in
+    (omega arith, one_marked _ _ _ _ c.loop-i.invariant.1 c.is_crossing.ensures c.edge_to-to.ensures (omega (arith, c.edge_to-to.ensures, to_small _ (facts _ c.requires) c.loop-i.i (omega (arith, c.loop-i-test.true, c.edge_count-count.ensures)))) c.flag_after.ensures)
+
+pub returns : goal.returns
+returns c =
+    all_marked _ _ (all_done _ _ _ c.loop-i.invariant.0 c.loop-i-test.false c.edge_count-count.ensures) c.loop-i.invariant.1

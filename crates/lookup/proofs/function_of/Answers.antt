@@ -1,0 +1,20 @@
+-- `lookup::function_of` reads the place that the function of a vertex stands at.
+use mathlib.Core.Path.{sym}
+use native.Mathlib.Omega.{arith}
+use Rattle.lookup.proofs.Places.{few_vertices, function_at_lem}
+use Rattle.lookup.proofs.function_of.Goals as goal
+
+pub overflow_mul-result : goal.overflow_mul-result
+overflow_mul-result c = omega (arith, few_vertices _ c.requires.fact_1)
+
+pub overflow_add-result : goal.overflow_add-result
+overflow_add-result c = omega (arith, few_vertices _ c.requires.fact_1)
+
+pub offset_bounds-l-v : goal.offset_bounds-l-v
+offset_bounds-l-v c = omega (arith, few_vertices _ c.requires.fact_1)
+
+pub bounds-l-v : goal.bounds-l-v
+bounds-l-v c = omega (arith, few_vertices _ c.requires.fact_1)
+
+pub returns : goal.returns
+returns c = sym (function_at_lem _ c.requires.fact_1 _ c.requires.fact_2)

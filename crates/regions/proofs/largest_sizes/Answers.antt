@@ -1,0 +1,25 @@
+use Prim.Native.Nat.{◌-◌}
+use native.Mathlib.Omega.{arith}
+use Rattle.lookup.proofs.Places.{facts}
+use Rattle.model.specs.Numbers.{problem_of}
+use Rattle.regions.proofs.Sizes.{Sizing, none_sized, one_sized, all_sized}
+use Rattle.regions.proofs.largest_sizes.Goals as goal
+
+pub loop-f-init : goal.loop-f-init
+loop-f-init c = none_sized _ _
+
+pub region_of-requires : goal.region_of-requires
+region_of-requires c = omega (arith, c.requires.fact_2)
+
+pub size_of-requires : goal.size_of-requires
+size_of-requires c = record { fact_1 = facts _ c.requires.fact_1; fact_2 = omega arith }
+
+pub enlarge-requires : goal.enlarge-requires
+enlarge-requires c = c.loop-f.invariant.long
+
+pub loop-f-preserved : goal.loop-f-preserved
+loop-f-preserved c =
+    one_sized _ _ c.loop-f.invariant (omega arith) c.region_of.ensures c.size_of.ensures c.enlarge.ensures
+
+pub returns : goal.returns
+returns c = all_sized _ _ c.loop-f.invariant (omega arith)

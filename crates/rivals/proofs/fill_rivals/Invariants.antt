@@ -1,0 +1,16 @@
+-- `fill_rivals` has the others of the regions of the functions passed.
+use Prim.Native.Nat.{◌-◌, ◌≤◌, ◌<◌}
+use native.Mathlib.Omega.{arith}
+use Rattle.model.specs.Numbers.{problem_of}
+use Rattle.lookup.proofs.Places.{facts, few_functions}
+use Rattle.rivals.specs.Rivals.{RivalsBelow}
+use Rattle.rivals.proofs.Gathered.{no_rivals, one_rival, all_rivals}
+use Rattle.model.specs.Places as places
+use Rattle.model.specs.Limits as limits
+use Rattle.rivals.proofs.fill_rivals.Given as goal
+
+abbrev pub invariant-loop-f : goal.invariant-loop-f
+invariant-loop-f l = (l.f ≤ (problem_of l.l).function_count) × ((problem_of l.l).function_count ≤ places.most_functions) × RivalsBelow l.layout (problem_of l.l).function_count l.f l.rivals
+
+abbrev pub decreases-loop-f : goal.decreases-loop-f
+decreases-loop-f l = l.count - l.f
