@@ -1,70 +1,76 @@
 // Answers in print.
 use model::{BoundAnswer, Problem, Refusal, RunAnswer, WriteAnswer};
 use prints::{number, text};
+use std::io;
+use std::io::Write;
 
-fn refused(refusal: Refusal) {
+// Room for any file that is written here.
+const ROOM: usize = 4096;
+
+fn refused(out: &mut impl Write, refusal: Refusal) -> io::Result<()> {
     prints::placed(
+        out,
         b"refused ",
         model::number_of(refusal),
         model::place_of(refusal),
-    );
+    )
 }
 
-pub fn bounded(answer: BoundAnswer) {
+pub fn bounded(out: &mut impl Write, answer: BoundAnswer) -> io::Result<()> {
     match answer {
         BoundAnswer::Bounded(b) => {
-            number(b"need ", b.need.0);
-            number(b", contested ", b.contested as u64);
-            number(b", first loads ", b.first.0);
-            number(b", bound ", b.bound.0);
+            number(out, b"need ", b.need.0)?;
+            number(out, b", contested ", b.contested as u64)?;
+            number(out, b", first loads ", b.first.0)?;
+            number(out, b", bound ", b.bound.0)?;
         }
-        BoundAnswer::Refused(f) => refused(f),
+        BoundAnswer::Refused(f) => refused(out, f)?,
     }
-    text(b"\n");
+    text(out, b"\n")
 }
 
-pub fn ran(answer: RunAnswer) {
+pub fn ran(out: &mut impl Write, answer: RunAnswer) -> io::Result<()> {
     match answer {
         RunAnswer::Ran(run) => {
-            number(b"cycles ", run.cycles.0);
-            number(b", loads ", run.loads);
+            number(out, b"cycles ", run.cycles.0)?;
+            number(out, b", loads ", run.loads)?;
         }
-        RunAnswer::Refused(f) => refused(f),
+        RunAnswer::Refused(f) => refused(out, f)?,
     }
-    text(b"\n");
+    text(out, b"\n")
 }
 
 // As `10 bytes of edition 1`.
-fn written(bytes: u64, edition: u8) {
-    number(b"", bytes);
-    number(b" bytes of edition ", edition as u64);
+fn written(out: &mut impl Write, bytes: u64, edition: u8) -> io::Result<()> {
+    number(out, b"", bytes)?;
+    number(out, b" bytes of edition ", edition as u64)
 }
 
 // A file and what is written back of it, as `M10: 10 bytes, written back as 10 bytes of edition 1`.
-pub fn file(name: &[u8], file: &[u8]) {
-    let mut out = io::buffer();
+pub fn file(out: &mut impl Write, name: &[u8], file: &[u8]) -> io::Result<()> {
+    let mut room = [0u8; ROOM];
     let mut answer = [0u64; 4];
-    let status = examiner::examiner_write(file, &mut out, &mut answer);
-    text(name);
-    number(b": ", file.len() as u64);
+    let status = examiner::examiner_write(file, &mut room, &mut answer);
+    text(out, name)?;
+    number(out, b": ", file.len() as u64)?;
     if status == 0 {
-        text(b" bytes, written back as ");
-        written(answer[0], out[0]);
+        text(out, b" bytes, written back as ")?;
+        written(out, answer[0], room[0])?;
     } else {
-        prints::placed(b" bytes, refused ", status, answer[0]);
+        prints::placed(out, b" bytes, refused ", status, answer[0])?;
     }
-    text(b"\n");
+    text(out, b"\n")
 }
 
 // What is written of a record, as `Q with 0 1: 28 bytes of edition 2`.
-pub fn record(name: &[u8], problem: Problem) {
-    let mut out = io::buffer();
-    let answer = file::write(problem, &mut out);
-    text(name);
-    text(b": ");
+pub fn record(out: &mut impl Write, name: &[u8], problem: Problem) -> io::Result<()> {
+    let mut room = [0u8; ROOM];
+    let answer = file::write(problem, &mut room);
+    text(out, name)?;
+    text(out, b": ")?;
     match answer {
-        WriteAnswer::Written(bytes) => written(bytes as u64, out[0]),
-        WriteAnswer::Refused(f) => refused(f),
+        WriteAnswer::Written(bytes) => written(out, bytes as u64, room[0])?,
+        WriteAnswer::Refused(f) => refused(out, f)?,
     }
-    text(b"\n");
+    text(out, b"\n")
 }

@@ -9,11 +9,9 @@ fn edges() -> [u64; 257]
     ensures { length result ≡ 257 }
 {
     let mut edges = [0u64; 257];
-    let mut u: usize = 0;
-    while u < 126 {
+    for u in 0..126usize {
         edges[1 + 2 * u] = u as u64;
         edges[2 + 2 * u] = u as u64 + 1;
-        u += 1;
     }
     edges[0] = 128;
     edges[253] = 125;

@@ -1,6 +1,8 @@
 // A reason, and the walk that shows it, in a line.
 use model::{EvictionAnswer, Problem, Reason};
 use prints::{number, text};
+use std::io;
+use std::io::Write;
 
 // No walk is longer.
 const MOST_SHOWN: usize = 256;
@@ -9,57 +11,75 @@ fn wide(entry: u32) -> u64 {
     entry as u64
 }
 
-fn entries(walk: &[u32], count: usize) {
-    text(b", by");
-    let mut i: usize = 0;
-    while i < count {
+fn entries(out: &mut impl Write, walk: &[u32], count: usize) -> io::Result<()> {
+    text(out, b", by")?;
+    for i in 0..count {
         if i < walk.len() {
-            number(b" ", wide(walk[i]));
+            number(out, b" ", wide(walk[i]))?;
         }
-        i += 1;
     }
+    Ok(())
 }
 
-fn reason(reason: Reason) {
+fn reason(out: &mut impl Write, reason: Reason) -> io::Result<()> {
     match reason {
-        Reason::EveryVisit(g) => number(b"every visit, function ", g as u64),
-        Reason::FirstLoad => text(b"first load"),
-        Reason::Never => text(b"never"),
+        Reason::EveryVisit(g) => number(out, b"every visit, function ", g as u64)?,
+        Reason::FirstLoad => text(out, b"first load")?,
+        Reason::Never => text(out, b"never")?,
     }
+    Ok(())
 }
 
 // With as many entries as are lent.
-pub fn line(title: &[u8], problem: Problem, layout: &[u8], vertex: u64, walk: &mut [u32]) {
-    text(title);
+pub fn line(
+    out: &mut impl Write,
+    title: &[u8],
+    problem: Problem,
+    layout: &[u8],
+    vertex: u64,
+    walk: &mut [u32],
+) -> io::Result<()> {
+    text(out, title)?;
     let answer = eviction::eviction(problem, layout, vertex, walk);
     match answer {
         EvictionAnswer::Shown(e) => {
             let why = e.reason;
             let count = e.count;
-            reason(why);
+            reason(out, why)?;
             if 0 < count {
-                entries(walk, count);
+                entries(out, walk, count)?;
             }
         }
         EvictionAnswer::Refused(f) => {
-            prints::placed(b"refused ", model::number_of(f), model::place_of(f));
+            prints::placed(out, b"refused ", model::number_of(f), model::place_of(f))?;
         }
     }
-    text(b"\n");
+    text(out, b"\n")
 }
 
-pub fn one(title: &[u8], problem: Problem, layout: &[u8], vertex: u64) {
+pub fn one(
+    out: &mut impl Write,
+    title: &[u8],
+    problem: Problem,
+    layout: &[u8],
+    vertex: u64,
+) -> io::Result<()> {
     let mut walk = [0u32; MOST_SHOWN];
-    line(title, problem, layout, vertex, &mut walk);
+    line(out, title, problem, layout, vertex, &mut walk)
 }
 
 // Every vertex.
-pub fn each(title: &[u8], problem: Problem, layout: &[u8], vertices: u64) {
-    text(title);
-    let mut v: u64 = 0;
-    while v < vertices {
-        number(b"vertex ", v);
-        one(b": ", problem, layout, v);
-        v += 1;
+pub fn each(
+    out: &mut impl Write,
+    title: &[u8],
+    problem: Problem,
+    layout: &[u8],
+    vertices: u64,
+) -> io::Result<()> {
+    text(out, title)?;
+    for v in 0..vertices {
+        number(out, b"vertex ", v)?;
+        one(out, b": ", problem, layout, v)?;
     }
+    Ok(())
 }

@@ -1,4 +1,4 @@
-// The library for C and Rust callers: an operation an export. Each answers 0, or the refusal's number with its place in answer[0].
+// The library as its callers see it: an operation a function. Each answers 0, or the refusal's number with its place in answer[0]. C calls them through examiner_c.
 #![tactic(auto)]
 
 ghost use Rattle.std.specs.Prelude.{◌≡◌, length};
@@ -12,8 +12,7 @@ use model::{Drawing, Reason, Refusal, Remark, Verdict, limits, places};
 use outcomes::Answer;
 
 // **Read**: the numbers of functions, vertices, edges and loops.
-#[unsafe(no_mangle)]
-pub extern "C" fn examiner_read(file: &[u8], answer: &mut Answer) -> u32
+pub fn examiner_read(file: &[u8], answer: &mut Answer) -> u32
     ensures value { result ≡ status (read_told file.now) }
     ensures answer_after { answer.new ≡ answer_after (read_told file.now) answer.old }
 {
@@ -26,8 +25,7 @@ pub extern "C" fn examiner_read(file: &[u8], answer: &mut Answer) -> u32
 }
 
 // **Write** of the problem that the file holds: the bytes written, and the file in `out`.
-#[unsafe(no_mangle)]
-pub extern "C" fn examiner_write(file: &[u8], out: &mut [u8], answer: &mut Answer) -> u32
+pub fn examiner_write(file: &[u8], out: &mut [u8], answer: &mut Answer) -> u32
     ensures value { result ≡ status (write_told file.now (length out.old)) }
     ensures answer_after { answer.new ≡ answer_after (write_told file.now (length out.old)) answer.old }
     ensures out_after { out.new ≡ write_out file.now out.old }
@@ -42,8 +40,7 @@ pub extern "C" fn examiner_write(file: &[u8], out: &mut [u8], answer: &mut Answe
 }
 
 // **Write** of any record, lawful or not, given as its numbers without the edition: the bytes written, and the file in `out`.
-#[unsafe(no_mangle)]
-pub extern "C" fn examiner_write_fields(
+pub fn examiner_write_fields(
     fields: &[u32; places::FIELD_COUNT],
     out: &mut [u8],
     answer: &mut Answer,
@@ -58,8 +55,7 @@ pub extern "C" fn examiner_write_fields(
 }
 
 // **Interference** of the problem that the file holds: the words filled.
-#[unsafe(no_mangle)]
-pub extern "C" fn examiner_interference(file: &[u8], words: &mut [u32], answer: &mut Answer) -> u32
+pub fn examiner_interference(file: &[u8], words: &mut [u32], answer: &mut Answer) -> u32
     ensures { Right (InterferenceTold file.now words.old words.new) answer.old answer.new result }
 {
     let mut numbers = [0u64; places::END];
@@ -72,8 +68,7 @@ pub extern "C" fn examiner_interference(file: &[u8], words: &mut [u32], answer: 
 }
 
 // **Bound** of the problem that the file holds, with a layout: bytes needed, contested vertices, what first loads add, bound.
-#[unsafe(no_mangle)]
-pub extern "C" fn examiner_bound(file: &[u8], layout: &[u8], answer: &mut Answer) -> u32
+pub fn examiner_bound(file: &[u8], layout: &[u8], answer: &mut Answer) -> u32
     ensures { Right (BoundTold file.now layout.now) answer.old answer.new result }
 {
     let mut numbers = [0u64; places::END];
@@ -86,8 +81,7 @@ pub extern "C" fn examiner_bound(file: &[u8], layout: &[u8], answer: &mut Answer
 }
 
 // **Run** of a walk in the problem that the file holds, with a layout: cycles and loads, and the function held in each region.
-#[unsafe(no_mangle)]
-pub extern "C" fn examiner_run(
+pub fn examiner_run(
     file: &[u8],
     layout: &[u8],
     walk: &[u32],
@@ -108,8 +102,7 @@ pub extern "C" fn examiner_run(
 }
 
 // **Inline** of a drawing: the bytes written, and the file of its one problem in `out`.
-#[unsafe(no_mangle)]
-pub extern "C" fn examiner_inline(drawing: &Drawing, out: &mut [u8], answer: &mut Answer) -> u32
+pub fn examiner_inline(drawing: &Drawing, out: &mut [u8], answer: &mut Answer) -> u32
     ensures value { result ≡ status (inline_told drawing.now (length out.old)) }
     ensures answer_after { answer.new ≡ answer_after (inline_told drawing.now (length out.old)) answer.old }
     ensures out_after { out.new ≡ inline_out drawing.now out.old }
@@ -124,8 +117,7 @@ pub extern "C" fn examiner_inline(drawing: &Drawing, out: &mut [u8], answer: &mu
 
 // **Eviction** of a vertex in the problem that the file holds, with a layout: the walk's entries, the reason's number and the function that it names, and the walk
 // at the front of `walk`.
-#[unsafe(no_mangle)]
-pub extern "C" fn examiner_eviction(
+pub fn examiner_eviction(
     file: &[u8],
     layout: &[u8],
     vertex: u64,
@@ -153,13 +145,7 @@ fn word_told(remark: Remark, text: &mut [u8], answer: &mut Answer) -> u32
 }
 
 // **Word** of the refusal with a number and a place: the bytes written, and the sentence in `text`. A number that is no refusal's is 3 at 0.
-#[unsafe(no_mangle)]
-pub extern "C" fn examiner_word_refusal(
-    number: u32,
-    place: u64,
-    text: &mut [u8],
-    answer: &mut Answer,
-) -> u32
+pub fn examiner_word_refusal(number: u32, place: u64, text: &mut [u8], answer: &mut Answer) -> u32
     ensures value { result ≡ status (refusal_told number place (length text.old)) }
     ensures answer_after { answer.new ≡ answer_after (refusal_told number place (length text.old)) answer.old }
     ensures text_after { text.new ≡ refusal_text number place text.old }
@@ -175,13 +161,7 @@ pub extern "C" fn examiner_word_refusal(
 }
 
 // **Word** of the reason with a number, which names a function if it is 1: the bytes written, and the sentence in `text`. A number that is no reason's is 3 at 0.
-#[unsafe(no_mangle)]
-pub extern "C" fn examiner_word_reason(
-    reason: u32,
-    function: u64,
-    text: &mut [u8],
-    answer: &mut Answer,
-) -> u32
+pub fn examiner_word_reason(reason: u32, function: u64, text: &mut [u8], answer: &mut Answer) -> u32
     ensures value { result ≡ status (reason_told reason function (length text.old)) }
     ensures answer_after { answer.new ≡ answer_after (reason_told reason function (length text.old)) answer.old }
     ensures text_after { text.new ≡ reason_text reason function text.old }
@@ -198,8 +178,7 @@ pub extern "C" fn examiner_word_reason(
 }
 
 // **Read-sentence**: 0, the refusal's number and its place; or the reason's number and the function that it names.
-#[unsafe(no_mangle)]
-pub extern "C" fn examiner_read_sentence(text: &[u8], answer: &mut Answer) -> u32
+pub fn examiner_read_sentence(text: &[u8], answer: &mut Answer) -> u32
     ensures { Right (Understood text.now) answer.old answer.new result }
 {
     outcomes::tell_sentence(sentences::read_sentence(text), answer)

@@ -110,3 +110,4 @@ module _ (n : ℕ) where
         mul-le-mul_right (radix r) (p x (Memᴰ.head refl) (o.0 a i)),
         far_lex d e u v s (λ m j. b m (Memᴰ.tail j)) o.1 i (λ m j. p m (Memᴰ.tail j)) q,
       )
+  far_lex d e u v {a = a} {ls = []} s b o x17 p q = elim x17 [ ]

@@ -51,6 +51,7 @@ Next ls = (i : ℕ) → suc i < length ls → (loop ls i).header < (loop ls (suc
 first_below : (l : Loop) (ls : List Loop) → Next (l ∷ ls) → (m : Loop) → Memᴰ m ls → l.header < m.header
 first_below l (x ∷ ls) s m (Memᴰ.head e) = omega (arith, s 0 (omega arith), same_header e)
 first_below l (x ∷ ls) s m (Memᴰ.tail i) = omega (arith, s 0 (omega arith), first_below x ls (λ j h. s (suc j) (omega arith)) m i)
+first_below l [] s m x'' = elim x'' [ ]
 
 pub ascend_by_next : (ls : List Loop) → Next ls → Ascend ls
 ascend_by_next [] s = tt

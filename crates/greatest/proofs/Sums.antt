@@ -44,6 +44,7 @@ sum_one f {ls = y ∷ r} s (Memᴰ.head e) p =
     omega (arith, ap f e, sum_none f r (λ m i. p m (Memᴰ.tail i) (λ q. omega (arith, s.0 m i, same_header e))))
 sum_one f {a = a} {ls = y ∷ r} s (Memᴰ.tail i) p =
     omega (arith, p y (Memᴰ.head refl) (λ e. omega (arith, s.0 a i)), sum_one f s.1 i (λ m j. p m (Memᴰ.tail j)))
+sum_one f {a = a} {ls = []} s x8 p = elim x8 [ ]
 
 module _ (f g k : Loop → ℕ) where
   pub sum_le : (ls : List Loop) → ((l : Loop) → Memᴰ l ls → f l ≤ g l + k l) → sum f ls ≤ sum g ls + sum k ls
@@ -63,6 +64,7 @@ module _ (f g k : Loop → ℕ) where
     unfolding sum
     sum_le_at {ls = y ∷ r} (Memᴰ.head e) p q = omega (arith, ap f e, ap g e, ap k e, sum_le r (λ m i. p m (Memᴰ.tail i)))
     sum_le_at {ls = y ∷ r} (Memᴰ.tail i) p q = omega (arith, p y (Memᴰ.head refl), sum_le_at i (λ m j. p m (Memᴰ.tail j)) q)
+    sum_le_at {a = a} {ls = []} x9 p q = elim x9 [ ]
 
     pub sum_ge_at : {a : Loop} {ls : List Loop} → Ascend ls → Memᴰ a ls
         → ((l : Loop) → Memᴰ l ls → (l.header ≡ a.header → ⊥) → g l + k l ≤ f l) → g a + k a ≤ f a + x → sum g ls + sum k ls ≤ sum f ls + x
@@ -71,3 +73,4 @@ module _ (f g k : Loop → ℕ) where
         omega (arith, ap f e, ap g e, ap k e, sum_ge r (λ m i. p m (Memᴰ.tail i) (λ h. omega (arith, s.0 m i, same_header e))))
     sum_ge_at {a = a} {ls = y ∷ r} s (Memᴰ.tail i) p q =
         omega (arith, p y (Memᴰ.head refl) (λ h. omega (arith, s.0 a i)), sum_ge_at s.1 i (λ m j. p m (Memᴰ.tail j)) q)
+    sum_ge_at {a = a} {ls = []} s x12 p q = elim x12 [ ]

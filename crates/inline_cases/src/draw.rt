@@ -16,10 +16,8 @@ const LAST_VERTEX: usize = places::MOST_VERTICES - 1;
 fn put(d: &mut Drawing, at: usize, part: &[u32])
     requires { at + length part.now ≤ functions_place + drawn_width * spot.most_functions }
 {
-    let mut i: usize = 0;
-    while i < part.len() {
+    for i in 0..part.len() {
         d[at + i] = part[i];
-        i += 1;
     }
 }
 
@@ -72,10 +70,8 @@ fn links(d: &mut Drawing, f: usize, first: usize, end: usize, callee: u32)
     requires fact_1 { f < spot.most_functions }
     requires fact_2 { end ≤ spot.most_vertices }
 {
-    let mut v = first;
-    while v < end {
+    for v in first..end {
         link(d, f, v, callee);
-        v += 1;
     }
 }
 
@@ -94,10 +90,8 @@ pub fn chain(d: &mut Drawing, f: usize, callee: u32, calls: usize, more: usize)
 
 // Every function but the last calls the next one from each of its vertices but the last.
 pub fn tower(d: &mut Drawing) {
-    let mut f: usize = 0;
-    while f < LAST_FUNCTION {
+    for f in 0..LAST_FUNCTION {
         chain(d, f, f as u32 + 1, LAST_VERTEX, 1);
-        f += 1;
     }
     chain(d, LAST_FUNCTION, NONE, 0, 1);
 }

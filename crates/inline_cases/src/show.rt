@@ -4,143 +4,151 @@ ghost use Rattle.facts.specs.Fields.{FieldFacts};
 
 use model::{BoundAnswer, Drawing, Numbers, Refusal, RunAnswer, Verdict, limits, places};
 use prints::{number, text};
+use std::io;
+use std::io::Write;
 
-fn refusal(refusal: Refusal) {
+fn refusal(out: &mut impl Write, refusal: Refusal) -> io::Result<()> {
     prints::placed(
+        out,
         b" refused ",
         model::number_of(refusal),
         model::place_of(refusal),
-    );
+    )
 }
 
 // Each vertex's function and own cost, as ` 0:10`.
-fn vertices(l: &Numbers)
+fn vertices(out: &mut impl Write, l: &Numbers) -> io::Result<()>
     requires { FieldFacts l.now }
 {
     let count = lookup::vertex_count(l);
-    let mut v: usize = 0;
-    while v < count {
-        number(b" ", lookup::function_of(l, v) as u64);
-        number(b":", lookup::own_cost(l, v).0);
-        v += 1;
+    for v in 0..count {
+        number(out, b" ", lookup::function_of(l, v) as u64)?;
+        number(out, b":", lookup::own_cost(l, v).0)?;
     }
+    Ok(())
 }
 
 // Each edge, as ` 0-1`.
-fn edges(l: &Numbers)
+fn edges(out: &mut impl Write, l: &Numbers) -> io::Result<()>
     requires { FieldFacts l.now }
 {
     let count = lookup::edge_count(l);
-    let mut i: usize = 0;
-    while i < count {
-        number(b" ", lookup::edge_from(l, i) as u64);
-        number(b"-", lookup::edge_to(l, i) as u64);
-        i += 1;
+    for i in 0..count {
+        number(out, b" ", lookup::edge_from(l, i) as u64)?;
+        number(out, b"-", lookup::edge_to(l, i) as u64)?;
     }
+    Ok(())
 }
 
 // Each loop, as `, loop 1 to 5 bound 4`.
-fn loops(l: &Numbers)
+fn loops(out: &mut impl Write, l: &Numbers) -> io::Result<()>
     requires { FieldFacts l.now }
 {
     let count = lookup::loop_count(l);
-    let mut i: usize = 0;
-    while i < count {
-        number(b", loop ", lookup::loop_header(l, i) as u64);
-        number(b" to ", lookup::loop_last(l, i) as u64);
-        number(b" bound ", lookup::loop_bound(l, i));
-        i += 1;
+    for i in 0..count {
+        number(out, b", loop ", lookup::loop_header(l, i) as u64)?;
+        number(out, b" to ", lookup::loop_last(l, i) as u64)?;
+        number(out, b" bound ", lookup::loop_bound(l, i))?;
     }
+    Ok(())
 }
 
-fn problem(l: &Numbers)
+fn problem(out: &mut impl Write, l: &Numbers) -> io::Result<()>
     requires { FieldFacts l.now }
 {
-    vertices(l);
-    text(b", edges");
-    edges(l);
-    loops(l);
+    vertices(out, l)?;
+    text(out, b", edges")?;
+    edges(out, l)?;
+    loops(out, l)
 }
 
-fn counts(l: &Numbers) {
-    number(b" vertices ", l[places::VERTEX_COUNT]);
-    number(b", edges ", l[places::EDGE_COUNT]);
-    number(b", loops ", l[places::LOOP_COUNT]);
+fn counts(out: &mut impl Write, l: &Numbers) -> io::Result<()> {
+    number(out, b" vertices ", l[places::VERTEX_COUNT])?;
+    number(out, b", edges ", l[places::EDGE_COUNT])?;
+    number(out, b", loops ", l[places::LOOP_COUNT])
 }
 
-fn bounded(answer: BoundAnswer) {
+fn bounded(out: &mut impl Write, answer: BoundAnswer) -> io::Result<()> {
     match answer {
-        BoundAnswer::Bounded(b) => number(b": bound ", b.bound.0),
-        BoundAnswer::Refused(f) => refusal(f),
+        BoundAnswer::Bounded(b) => number(out, b": bound ", b.bound.0)?,
+        BoundAnswer::Refused(f) => refusal(out, f)?,
     }
+    Ok(())
 }
 
-fn ran(answer: RunAnswer) {
+fn ran(out: &mut impl Write, answer: RunAnswer) -> io::Result<()> {
     match answer {
-        RunAnswer::Ran(run) => number(b", run ", run.cycles.0),
-        RunAnswer::Refused(f) => refusal(f),
+        RunAnswer::Ran(run) => number(out, b", run ", run.cycles.0)?,
+        RunAnswer::Refused(f) => refusal(out, f)?,
     }
+    Ok(())
 }
 
-fn region(r: u8) {
-    number(b" ", r as u64);
+fn region(out: &mut impl Write, r: u8) -> io::Result<()> {
+    number(out, b" ", r as u64)
 }
 
 // A layout's regions, as ` 0 1`.
-fn regions(layout: &[u8]) {
-    let mut i: usize = 0;
-    while i < layout.len() {
-        region(layout[i]);
-        i += 1;
+fn regions(out: &mut impl Write, layout: &[u8]) -> io::Result<()> {
+    for &r in layout {
+        region(out, r)?;
     }
+    Ok(())
 }
 
 // The bound under a layout, and the cycles of the walk.
-fn priced(l: &Numbers, layout: &[u8], walk: &[u32])
+fn priced(out: &mut impl Write, l: &Numbers, layout: &[u8], walk: &[u32]) -> io::Result<()>
     requires { Checked l.now }
 {
-    text(b"\nlayout");
-    regions(layout);
-    bounded(bound::bound_checked(l, layout));
+    text(out, b"\nlayout")?;
+    regions(out, layout)?;
+    bounded(out, bound::bound_checked(l, layout))?;
     let mut held = [0u8; limits::MOST_REGIONS];
-    ran(run::run_checked(l, layout, walk, &mut held));
+    ran(out, run::run_checked(l, layout, walk, &mut held))
 }
 
 // The same for each of some layouts, one behind the other, that list every function.
-fn prices(l: &Numbers, layouts: &[u8], walk: &[u32])
+fn prices(out: &mut impl Write, l: &Numbers, layouts: &[u8], walk: &[u32]) -> io::Result<()>
     requires { Checked l.now }
 {
     let width = lookup::function_count(l);
     let mut at: usize = 0;
     while width <= layouts.len() - at {
-        priced(l, &layouts[at..at + width], walk);
+        priced(out, l, &layouts[at..at + width], walk)?;
         at += width;
     }
+    Ok(())
 }
 
 // The one problem with its bounds under these layouts, or why there is none.
-pub fn worked(title: &[u8], d: &Drawing, layouts: &[u8], walk: &[u32]) {
-    text(title);
+pub fn worked(
+    out: &mut impl Write,
+    title: &[u8],
+    d: &Drawing,
+    layouts: &[u8],
+    walk: &[u32],
+) -> io::Result<()> {
+    text(out, title)?;
     let mut numbers = [0u64; places::END];
     let verdict = inline::inline_numbers(d, &mut numbers);
     match verdict {
         Verdict::Accepted => {
-            problem(&numbers);
-            prices(&numbers, layouts, walk);
+            problem(out, &numbers)?;
+            prices(out, &numbers, layouts, walk)?;
         }
-        Verdict::Refused(f) => refusal(f),
+        Verdict::Refused(f) => refusal(out, f)?,
     }
-    text(b"\n");
+    text(out, b"\n")
 }
 
 // How many vertices, edges and loops the one problem has, or why there is none.
-pub fn counted(title: &[u8], d: &Drawing) {
-    text(title);
+pub fn counted(out: &mut impl Write, title: &[u8], d: &Drawing) -> io::Result<()> {
+    text(out, title)?;
     let mut numbers = [0u64; places::END];
     let verdict = inline::inline_numbers(d, &mut numbers);
     match verdict {
-        Verdict::Accepted => counts(&numbers),
-        Verdict::Refused(f) => refusal(f),
+        Verdict::Accepted => counts(out, &numbers)?,
+        Verdict::Refused(f) => refusal(out, f)?,
     }
-    text(b"\n");
+    text(out, b"\n")
 }

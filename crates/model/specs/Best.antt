@@ -1,23 +1,16 @@
 -- The best layout, of document 02: for up to eight functions a grouping into regions that fits and whose bound is least.
-use Rattle.std.specs.Prelude.{ℕ, suc, ◌≤◌, ◌<◌, ◌≡◌, List, cond, ◌⊎◌, length, get_or, replicate, eqb, ltb}
-use Rattle.std.proofs.lemmas.List.Edits.{sets}
-use Rattle.model.specs.declared.Verdict.{Verdict}
+use Rattle.std.specs.Prelude.{ℕ, suc, ◌≤◌, ◌<◌, ◌≡◌, List, ◌⊎◌, length, get_or, eqb}
 use Rattle.model.specs.declared.Verdict.TheVariants as verdict
 use Rattle.model.specs.declared.Problem.{Problem}
 use Rattle.model.specs.declared.Bound.{Bound}
 use Rattle.model.specs.declared.BoundAnswer.TheVariants.{Bounded}
 use Rattle.model.specs.declared.Best.{Best}
-use Rattle.model.specs.declared.BestAnswer.{BestAnswer}
-use Rattle.model.specs.declared.BestAnswer.TheVariants as best
-use Rattle.model.specs.Limits.{most_grouped}
 use Rattle.model.specs.Numbers.{table}
 use Rattle.model.specs.Search.{lowest_below}
-use Rattle.model.specs.Graph.{and_then}
 use Rattle.model.specs.Costs.{largest, how_many}
-use Rattle.model.specs.Layouts.{region_of, need_of, judge_need, judge_layout}
+use Rattle.model.specs.Layouts.{region_of, judge_layout}
 use Rattle.model.specs.Evictions.{NotBehind}
-use Rattle.model.specs.Verdicts.{judge_problem}
-use Rattle.model.specs.Results.{PastTheLimit, BoundSays}
+use Rattle.model.specs.Results.{BoundSays}
 
 -- How many regions the functions before f have, where *regions are numbered by first appearance*.
 unfoldable pub top : (ℕ → ℕ) → ℕ → ℕ

@@ -1,6 +1,6 @@
 -- Runs of a drawn program with a call stack (2/14).
-use Rattle.std.specs.Prelude.{ℕ, ◌+◌, ◌-◌, ◌≤◌, ◌≡◌, List, [], ◌∷◌, map, cond}
-use Rattle.std.proofs.Math.Option.{Option, some, none}
+use Rattle.std.specs.Prelude.{ℕ, ◌+◌, ◌≡◌, List, [], ◌∷◌, map, cond}
+use Rattle.std.proofs.Math.Option.{some, none}
 use Rattle.model.specs.Graph.{loops_of}
 use Rattle.model.specs.Costs.{own_cost, load_cost, check_cost}
 use Rattle.model.specs.Layouts.{region_of}

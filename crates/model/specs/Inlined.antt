@@ -1,7 +1,6 @@
 -- **Inline** (2/14): which refusal applies first, or the one problem.
-use Rattle.std.specs.Prelude.{ℕ, zero, suc, ◌-◌, List, Bool, true, false, cond, ◌&&◌, ◌||◌, length, get_or, eqb, leb}
+use Rattle.std.specs.Prelude.{ℕ, zero, suc, ◌-◌, List, Bool, true, false, cond, ◌&&◌, ◌||◌, length, eqb, leb}
 use Rattle.std.proofs.Math.Option.{Option, some, none}
-use Rattle.model.specs.declared.Refusal.{Refusal}
 use Rattle.model.specs.declared.Refusal.TheVariants.{OutOfRange, Recursive, CountPassed, LastCalls}
 use Rattle.model.specs.declared.Verdict.{Verdict}
 use Rattle.model.specs.declared.Verdict.TheVariants as verdict

@@ -1,7 +1,6 @@
 -- The graph: walks, stays and lawful walks. A walk is kept as a history, its latest vertex first, since what document 01 says of a visit looks back.
 use Rattle.std.specs.Prelude.{ℕ, ◌+◌, ◌-◌, ◌≤◌, ◌≡◌, cond, ◌⊎◌, eqb}
 use mathlib.Core.List.{List, [], ◌∷◌, reverse, Memᴰ}
-use Rattle.model.specs.declared.Edge.{Edge}
 use Rattle.model.specs.declared.Loop.{Loop}
 use Rattle.model.specs.declared.Problem.{Problem}
 use Rattle.model.specs.Graph.{holds, edges_of, loops_of}

@@ -1,65 +1,75 @@
 // A remark's sentence, or a text with what it reads as, in a line.
 use model::{Reason, Refusal, Remark, SentenceAnswer, WordAnswer, limits};
 use prints::{number, text};
+use std::io;
+use std::io::Write;
 
-fn refused(refusal: Refusal) {
+fn refused(out: &mut impl Write, refusal: Refusal) -> io::Result<()> {
     prints::placed(
+        out,
         b"refused ",
         model::number_of(refusal),
         model::place_of(refusal),
-    );
+    )
 }
 
 // Into as many bytes as are lent.
-pub fn worded(remark: Remark, lent: &mut [u8]) {
+pub fn worded(out: &mut impl Write, remark: Remark, lent: &mut [u8]) -> io::Result<()> {
     let answer = sentences::word(remark, lent);
     match answer {
         WordAnswer::Worded(bytes) => {
             if bytes <= lent.len() {
-                text(&lent[..bytes]);
+                text(out, &lent[..bytes])?;
             }
         }
-        WordAnswer::Refused(refusal) => refused(refusal),
+        WordAnswer::Refused(refusal) => refused(out, refusal)?,
     }
-    text(b"\n");
+    text(out, b"\n")
 }
 
-pub fn refusal(refusal: Refusal) {
+pub fn refusal(out: &mut impl Write, refusal: Refusal) -> io::Result<()> {
     let mut room = [0u8; limits::MOST_SENTENCE];
-    worded(Remark::Refused(refusal), &mut room);
+    worded(out, Remark::Refused(refusal), &mut room)
 }
 
-pub fn reason(reason: Reason) {
+pub fn reason(out: &mut impl Write, reason: Reason) -> io::Result<()> {
     let mut room = [0u8; limits::MOST_SENTENCE];
-    worded(Remark::Explained(reason), &mut room);
+    worded(out, Remark::Explained(reason), &mut room)
 }
 
-fn explained(reason: Reason) {
+fn explained(out: &mut impl Write, reason: Reason) -> io::Result<()> {
     match reason {
-        Reason::EveryVisit(g) => number(b"every visit, function ", g as u64),
-        Reason::FirstLoad => text(b"first load"),
-        Reason::Never => text(b"never"),
+        Reason::EveryVisit(g) => number(out, b"every visit, function ", g as u64)?,
+        Reason::FirstLoad => text(out, b"first load")?,
+        Reason::Never => text(out, b"never")?,
     }
+    Ok(())
 }
 
-fn meant(remark: Remark) {
+fn meant(out: &mut impl Write, remark: Remark) -> io::Result<()> {
     match remark {
         Remark::Refused(refusal) => {
-            prints::placed(b"", model::number_of(refusal), model::place_of(refusal));
+            prints::placed(
+                out,
+                b"",
+                model::number_of(refusal),
+                model::place_of(refusal),
+            )?;
         }
-        Remark::Explained(reason) => explained(reason),
+        Remark::Explained(reason) => explained(out, reason)?,
     }
+    Ok(())
 }
 
 // What a text reads as.
-pub fn read(words: &[u8]) {
-    text(b"`");
-    text(words);
-    text(b"`: ");
+pub fn read(out: &mut impl Write, words: &[u8]) -> io::Result<()> {
+    text(out, b"`")?;
+    text(out, words)?;
+    text(out, b"`: ")?;
     let answer = sentences::read_sentence(words);
     match answer {
-        SentenceAnswer::Meant(remark) => meant(remark),
-        SentenceAnswer::Refused(refusal) => refused(refusal),
+        SentenceAnswer::Meant(remark) => meant(out, remark)?,
+        SentenceAnswer::Refused(refusal) => refused(out, refusal)?,
     }
-    text(b"\n");
+    text(out, b"\n")
 }

@@ -1,6 +1,9 @@
 // Problems given as their fields, lawful or not.
+use crate::round_trip::ROOM;
 use crate::show;
 use model::places;
+use std::io;
+use std::io::Write;
 
 // A problem's numbers without the edition, so that each stands one place earlier.
 type Fields = [u32; places::FIELD_COUNT];
@@ -18,15 +21,14 @@ const VERTEX_COUNT: usize = places::VERTEX_COUNT - 1;
 const COST: usize = places::COST - 1;
 
 // Writes a problem's fields, and shows the refusal or the bytes written.
-fn write(name: &[u8], fields: &Fields) {
-    let mut out = io::buffer();
+fn write(out: &mut impl Write, name: &[u8], fields: &Fields) -> io::Result<()> {
+    let mut room = [0u8; ROOM];
     let mut answer = [0u64; 4];
-    let status = examiner::examiner_write_fields(fields, &mut out, &mut answer);
+    let status = examiner::examiner_write_fields(fields, &mut room, &mut answer);
     if status != 0 {
-        show::refusal(name, status, answer[0]);
-        return;
+        return show::refusal(out, name, status, answer[0]);
     }
-    show::line(name, answer[0], b" bytes");
+    show::line(out, name, answer[0], b" bytes")
 }
 
 // M10 with a scratchpad size: one function of size 8 and load cost 5, one vertex of it with cost 10.
@@ -41,7 +43,7 @@ fn m10_with(scratchpad: u32) -> Fields {
     fields
 }
 
-pub fn m10() {
-    write(b"fields of M10", &m10_with(8));
-    write(b"fields of M10 with scratchpad 0", &m10_with(0));
+pub fn m10(out: &mut impl Write) -> io::Result<()> {
+    write(out, b"fields of M10", &m10_with(8))?;
+    write(out, b"fields of M10 with scratchpad 0", &m10_with(0))
 }

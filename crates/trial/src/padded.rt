@@ -1,6 +1,8 @@
 // Files with every number padded to five bytes, and written back short.
-use crate::round_trip::front;
+use crate::round_trip::{ROOM, front};
 use crate::show;
+use std::io;
+use std::io::Write;
 
 // How many bytes each number takes.
 const FIVE: usize = 5;
@@ -33,15 +35,14 @@ fn pad(numbers: &[u8], out: &mut [u8]) -> usize {
 }
 
 // Pads a file of one-byte numbers, writes its problem into the room, and shows the refusal, or the bytes read and written and whether they are the file again.
-pub fn rewrite(name: &[u8], file: &[u8], room: &mut [u8]) {
-    let mut wide = io::buffer();
+pub fn rewrite(out: &mut impl Write, name: &[u8], file: &[u8], room: &mut [u8]) -> io::Result<()> {
+    let mut wide = [0u8; ROOM];
     let length = pad(file, &mut wide);
     let mut answer = [0u64; 4];
     let status = examiner::examiner_write(front(&wide, length), room, &mut answer);
     if status != 0 {
-        show::refusal(name, status, answer[0]);
-        return;
+        return show::refusal(out, name, status, answer[0]);
     }
-    let same = check::same(file, front(room, answer[0] as usize));
-    show::rewritten(name, length as u64, answer[0], same);
+    let same = file == front(room, answer[0] as usize);
+    show::rewritten(out, name, length as u64, answer[0], same)
 }

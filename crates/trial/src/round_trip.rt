@@ -3,6 +3,11 @@ ghost use Rattle.std.specs.Prelude.{◌≡◌, true};
 
 use crate::{padded, show};
 use model::{Numbers, Problem, Refusal, Verdict, WriteAnswer, places};
+use std::io;
+use std::io::Write;
+
+// Room for any file that is tried here.
+pub const ROOM: usize = 4096;
 
 // Whether two problems' numbers are the same.
 fn same_numbers(a: Numbers, b: Numbers) -> bool
@@ -27,51 +32,64 @@ pub fn front(buf: &[u8], count: usize) -> &[u8] {
     }
 }
 
-fn refused(name: &[u8], refusal: Refusal) {
-    show::refusal(name, model::number_of(refusal), model::place_of(refusal));
+fn refused(out: &mut impl Write, name: &[u8], refusal: Refusal) -> io::Result<()> {
+    show::refusal(
+        out,
+        name,
+        model::number_of(refusal),
+        model::place_of(refusal),
+    )
 }
 
 // Reads the file that was written, and shows whether it gives the problem again.
-fn read_back(name: &[u8], problem: Problem, file: &[u8]) {
+fn read_back(out: &mut impl Write, name: &[u8], problem: Problem, file: &[u8]) -> io::Result<()> {
     let mut numbers = [0u64; places::END];
     let verdict = file::read_numbers(file, &mut numbers);
     match verdict {
-        Verdict::Refused(refusal) => refused(name, refusal),
+        Verdict::Refused(refusal) => refused(out, name, refusal)?,
         Verdict::Accepted => {
             let back = records::problem_of(&numbers);
             let same = same_numbers(numbers::numbers_of(problem), numbers::numbers_of(back));
-            show::read_back(name, file.len() as u64, same);
+            show::read_back(out, name, file.len() as u64, same)?;
         }
     }
+    Ok(())
 }
 
 // Writes a problem, and answers how many bytes its file has; of a refusal, which it shows, none.
-fn write(name: &[u8], problem: Problem, out: &mut [u8]) -> usize {
-    let written = file::write(problem, out);
+fn write(
+    out: &mut impl Write,
+    name: &[u8],
+    problem: Problem,
+    room: &mut [u8],
+) -> io::Result<usize> {
+    let written = file::write(problem, room);
     match written {
-        WriteAnswer::Written(count) => count,
+        WriteAnswer::Written(count) => Ok(count),
         WriteAnswer::Refused(refusal) => {
-            refused(name, refusal);
-            0
+            refused(out, name, refusal)?;
+            Ok(0)
         }
     }
 }
 
 // A problem's file, read back.
-pub fn run(name: &[u8], problem: Problem) {
-    let mut out = io::buffer();
-    let count = write(name, problem, &mut out);
+pub fn run(out: &mut impl Write, name: &[u8], problem: Problem) -> io::Result<()> {
+    let mut room = [0u8; ROOM];
+    let count = write(out, name, problem, &mut room)?;
     if count != 0 {
-        read_back(name, problem, front(&out, count));
+        read_back(out, name, problem, front(&room, count))?;
     }
+    Ok(())
 }
 
 // A problem's file of one-byte numbers, written back from its padding.
-pub fn from_padding(name: &[u8], problem: Problem) {
-    let mut out = io::buffer();
-    let count = write(name, problem, &mut out);
+pub fn from_padding(out: &mut impl Write, name: &[u8], problem: Problem) -> io::Result<()> {
+    let mut room = [0u8; ROOM];
+    let count = write(out, name, problem, &mut room)?;
     if count != 0 {
-        let mut room = io::buffer();
-        padded::rewrite(name, front(&out, count), &mut room);
+        let mut again = [0u8; ROOM];
+        padded::rewrite(out, name, front(&room, count), &mut again)?;
     }
+    Ok(())
 }

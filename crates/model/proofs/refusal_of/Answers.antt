@@ -1,4 +1,4 @@
-use Rattle.std.proofs.Common.{rules, arith, sym, ap, ℕ, ◌≡◌}
+use Rattle.std.proofs.Common.{arith, sym, ap, ℕ, ◌≡◌}
 use Rattle.model.specs.Refusals.{refusal_of}
 use Rattle.model.proofs.refusal_of.Goals as goal
 

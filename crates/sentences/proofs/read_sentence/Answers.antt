@@ -4,8 +4,8 @@ use Rattle.sentences.proofs.Openings.{empty_right, refusal_right, visit_right, f
 use borrow.Author.Rules.{rules}
 use Rattle.sentences.proofs.read_sentence.Goals as goal
 
-both : {A B : Type 0} → A × B → record { reads_as_lem : A; understood : B }
-both p = record { reads_as_lem = p.0; understood = p.1 }
+both : {A B : Type 0} → A × B → record { reads_as : A; understood : B }
+both p = record { reads_as = p.0; understood = p.1 }
 
 pub returns-then-text-eq0 : goal.returns-then-text-eq0
 returns-then-text-eq0 c = both (empty_right _ c.if-text-eq0.true c.no_sentence.ensures)
@@ -25,4 +25,4 @@ unfolding text
 returns-in-78 c = both (never_right _ (search rules) c.in-78.is c.read_end-in-78.ensures)
 
 pub returns-in_default : goal.returns-in_default
-returns-in_default c = both (none_right _ (search rules) c.in_default.rest.0.0.0.1 c.in_default.rest.0.0.1 c.in_default.rest.0.1 c.in_default.rest.1 c.no_sentence-in_default.ensures)
+returns-in_default c = both (none_right _ (search rules) c.in_default.in_default-own.rest.0.0.0.1 c.in_default.in_default-own.rest.0.0.1 c.in_default.in_default-own.rest.0.1 c.in_default.in_default-own.rest.1 c.no_sentence-in_default.ensures)
