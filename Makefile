@@ -1,4 +1,4 @@
-.PHONY: test run staticlib program compare bench samples header
+.PHONY: test run staticlib program compare held bench samples header
 
 # The gate.
 test:
@@ -9,21 +9,30 @@ SAMPLE = p
 run:
 	@echo "Proving and building marksheet: some minutes the first time."
 	@mkdir -p target
-	@rt check marksheet 2>&1 | tee target/run.log | grep '^rt: ' || :
-	@grep -q '^rt: ok' target/run.log || { tail -n 20 target/run.log; exit 1; }
+	@rm -f target/run.ok
+	@{ $(MAKE) --no-print-directory program && touch target/run.ok; } 2>&1 | tee target/run.log | grep '^rt: ' || :
+	@[ -e target/run.ok ] || { tail -n 20 target/run.log; exit 1; }
 	@echo
 	@samples/slip $(SAMPLE)
 
 # The static library for other programs, proved and built: target/staticlib/libexaminer.a
 staticlib:
-	rt staticlib examiner
+	cd crates/examiner_c && rt lib
+	mkdir -p target/staticlib
+	cp crates/examiner_c/out/libexaminer_c.a target/staticlib/libexaminer.a
 
-# The program marksheet, proved and built: target/bin/marksheet
+# The program marksheet, proved and built: target/bin/marksheet. `rt run` also runs it, here on the file that it has for that.
 program:
-	rt check marksheet
+	cd crates/marksheet && rt run <stdin >/dev/null
+	mkdir -p target/bin
+	cp crates/marksheet/out/marksheet target/bin/marksheet
 
 # The library held to the independent implementation, and the program run as its users do. CASES=10 tries ten times as many cases.
-compare: staticlib program header
+compare: staticlib program
+	$(MAKE) held
+
+# The same of the library and the program that lie below target/ already, as the gate puts them there.
+held: header
 	cargo test --workspace
 
 # The library's speed against the independent implementation's.

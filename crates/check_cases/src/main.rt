@@ -26,32 +26,40 @@ fn run(
 }
 
 fn checked_p(out: &mut impl Write) -> io::Result<()> {
-    let p = samples::checked_p(14, 1, 2, 3);
-    bound(out, b"P with 1 2 3, layout 0 1 1: ", p, &[0, 1, 1])?;
+    bound(
+        out,
+        b"P with 1 2 3, layout 0 1 1: ",
+        samples::checked_p(14, 1, 2, 3),
+        &[0, 1, 1],
+    )?;
     let chain = [0u32, 1, 2, 3, 4, 5, 6];
     run(
         out,
         b"P with 1 2 3, layout 0 1 1, the chain: ",
-        p,
+        samples::checked_p(14, 1, 2, 3),
         &[0, 1, 1],
         &chain,
     )
 }
 
 fn checked_q(out: &mut impl Write) -> io::Result<()> {
-    let q = samples::checked_q(2, 4);
-    bound(out, b"Q with 2 4, layout 0 1: ", q, &[0, 1])?;
+    bound(
+        out,
+        b"Q with 2 4, layout 0 1: ",
+        samples::checked_q(2, 4),
+        &[0, 1],
+    )?;
     run(
         out,
         b"Q with 2 4, layout 0 1, walk 0 2 3: ",
-        q,
+        samples::checked_q(2, 4),
         &[0, 1],
         &[0, 2, 3],
     )?;
     run(
         out,
         b"Q with 2 4, layout 0 1, walk 0 1 3: ",
-        q,
+        samples::checked_q(2, 4),
         &[0, 1],
         &[0, 1, 3],
     )
@@ -59,30 +67,43 @@ fn checked_q(out: &mut impl Write) -> io::Result<()> {
 
 // A check is charged by vertex, so that a bound may exceed every run.
 fn checked_r(out: &mut impl Write) -> io::Result<()> {
-    let r = samples::checked_r(4, 2, 4);
     let longest = [0u32, 1, 2, 1, 2, 1, 2, 1, 3];
-    bound(out, b"R with 2 4, layout 0 1: ", r, &[0, 1])?;
+    bound(
+        out,
+        b"R with 2 4, layout 0 1: ",
+        samples::checked_r(4, 2, 4),
+        &[0, 1],
+    )?;
     run(
         out,
         b"R with 2 4, layout 0 1, the longest: ",
-        r,
+        samples::checked_r(4, 2, 4),
         &[0, 1],
         &longest,
     )?;
-    bound(out, b"R with 2 4, layout 0 0: ", r, &[0, 0])?;
+    bound(
+        out,
+        b"R with 2 4, layout 0 0: ",
+        samples::checked_r(4, 2, 4),
+        &[0, 0],
+    )?;
     run(
         out,
         b"R with 2 4, layout 0 0, the longest: ",
-        r,
+        samples::checked_r(4, 2, 4),
         &[0, 0],
         &longest,
     )?;
-    let once = samples::checked_r(1, 2, 4);
-    bound(out, b"R with bound 1 and 2 4, layout 0 1: ", once, &[0, 1])?;
+    bound(
+        out,
+        b"R with bound 1 and 2 4, layout 0 1: ",
+        samples::checked_r(1, 2, 4),
+        &[0, 1],
+    )?;
     run(
         out,
         b"R with bound 1 and 2 4, layout 0 1, walk 0 1 3: ",
-        once,
+        samples::checked_r(1, 2, 4),
         &[0, 1],
         &[0, 1, 3],
     )

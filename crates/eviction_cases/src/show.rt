@@ -1,4 +1,6 @@
 // A reason, and the walk that shows it, in a line.
+ghost use Rattle.std.specs.Prelude.{◌≡◌};
+
 use model::{EvictionAnswer, Problem, Reason};
 use prints::{number, text};
 use std::io;
@@ -68,6 +70,23 @@ pub fn one(
     line(out, title, problem, layout, vertex, &mut walk)
 }
 
+// A problem's fields, for another call on the same problem.
+fn copied(problem: &Problem) -> Problem
+    ensures { result ≡ problem.now }
+{
+    Problem {
+        scratchpad: problem.scratchpad,
+        function_count: problem.function_count,
+        functions: problem.functions,
+        vertex_count: problem.vertex_count,
+        vertices: problem.vertices,
+        edge_count: problem.edge_count,
+        edges: problem.edges,
+        loop_count: problem.loop_count,
+        loops: problem.loops,
+    }
+}
+
 // Every vertex.
 pub fn each(
     out: &mut impl Write,
@@ -79,7 +98,7 @@ pub fn each(
     text(out, title)?;
     for v in 0..vertices {
         number(out, b"vertex ", v)?;
-        one(out, b": ", problem, layout, v)?;
+        one(out, b": ", copied(&problem), layout, v)?;
     }
     Ok(())
 }

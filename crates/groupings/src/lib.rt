@@ -1,3 +1,2 @@
 // The groupings of up to eight functions, in order.
 #![tactic(auto)]
-

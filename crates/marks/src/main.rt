@@ -133,11 +133,15 @@ fn greatest_bound(out: &mut impl Write) -> io::Result<()> {
 // No function is listed, and each has a region of its own.
 fn left_off(out: &mut impl Write) -> io::Result<()> {
     let walk = [0u32, 1, 2, 3, 4, 5, 6];
-    let problem = samples::p(18);
-    bound(out, b"P with scratchpad 18, empty layout: ", problem, b"")?;
+    bound(
+        out,
+        b"P with scratchpad 18, empty layout: ",
+        samples::p(18),
+        b"",
+    )?;
     text(out, b"P with scratchpad 18, empty layout, the chain: ")?;
     let mut held = [0u8; limits::MOST_REGIONS];
-    show::ran(out, run::run(problem, b"", &walk, &mut held))?;
+    show::ran(out, run::run(samples::p(18), b"", &walk, &mut held))?;
     show::held(out, b"held in region 0: ", held[0])?;
     show::held(out, b", 1: ", held[1])?;
     show::held(out, b", 2: ", held[2])?;

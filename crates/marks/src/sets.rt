@@ -103,11 +103,11 @@ fn table(
 {
     text(out, name)?;
     let mut words = [BLANK; 24];
+    let vertices = problem.vertices;
     let answer = interference::interference(problem, &mut words);
     match answer {
         InterferenceAnswer::Refused(refusal) => refused(out, refusal, &words)?,
         InterferenceAnswer::Filled(words_filled) => {
-            let vertices = problem.vertices;
             rows(out, vertices, count, functions, &words)?;
             filled(out, words_filled, &words)?;
         }

@@ -1,7 +1,11 @@
 // Filling a buffer from an open input or from a file by name.
+ghost use Rattle.std.specs.Prelude.{IfOk};
 ghost use Rattle.sheet.specs.Fronts.{Fills};
 
 use crate::show;
+use std::io::{ErrorKind, Read};
+use std::rt::Files;
+use std::{fs, io};
 
 // How many bytes a buffer was filled to, or that a read failed.
 #[derive(Clone, Copy)]
@@ -11,38 +15,42 @@ pub enum BytesRead {
 }
 
 // Reads until the buffer is full or the input ends, since bytes can come in pieces. A read that fails is no end: it is told.
-pub fn from_input(input: i32, name: &[u8], buf: &mut [u8]) -> BytesRead
-    ensures { Fills buf.old buf.new result }
+pub fn from_input(
+    rt: &(impl Eprint + AllocGlobal),
+    input: &mut impl Read,
+    name: &str,
+    buf: &mut [u8],
+) -> io::Result<BytesRead>
+    ensures { IfOk result (λ filled. Fills buf.old buf.new filled) }
 {
     let mut done: usize = 0;
     while done < buf.len() {
-        let got = libc::read(input, &mut buf[done..]);
-        if got < 0 {
-            show::unreadable(name);
-            return BytesRead::Failed;
+        match input.read(&mut buf[done..]) {
+            Ok(0) => return Ok(BytesRead::To(done)),
+            Ok(more) => done += more,
+            Err(error) => {
+                show::unreadable(rt, name, &error)?;
+                return Ok(BytesRead::Failed);
+            }
         }
-        let more = io::count(got, &buf[done..]);
-        if more == 0 {
-            return BytesRead::To(done);
-        }
-        done += more;
     }
-    BytesRead::To(done)
+    Ok(BytesRead::To(done))
 }
 
 // A file that does not exist is empty, and no other that cannot be opened or read: nobody handed in an empty layout then.
-pub fn from_file(path: &[u8], buf: &mut [u8]) -> BytesRead
-    ensures { Fills buf.old buf.new result }
+pub fn from_file(
+    rt: &(impl Files + Eprint + AllocGlobal),
+    path: &str,
+    buf: &mut [u8],
+) -> io::Result<BytesRead>
+    ensures { IfOk result (λ filled. Fills buf.old buf.new filled) }
 {
-    let file = os::open_read(path);
-    if 0 <= file {
-        let filled = from_input(file, path, buf);
-        libc::close(file);
-        return filled;
+    match fs::open(rt, path) {
+        Ok(mut file) => from_input(rt, &mut file, path, buf),
+        Err(error) if error.kind() == ErrorKind::NotFound => Ok(BytesRead::To(0)),
+        Err(error) => {
+            show::unreadable(rt, path, &error)?;
+            Ok(BytesRead::Failed)
+        }
     }
-    if os::errno() == libc::ENOENT {
-        return BytesRead::To(0);
-    }
-    show::unreadable(path);
-    BytesRead::Failed
 }

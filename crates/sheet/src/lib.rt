@@ -9,6 +9,10 @@ ghost use Rattle.sheet.specs.Fronts.{AcceptedFront};
 
 use fill::BytesRead;
 use model::{Numbers, Verdict, places};
+pub use show::unreadable;
+use std::io;
+use std::io::Read;
+use std::rt::Files;
 
 // Room for more bytes of a problem file than Read looks at, and for more of a layout than Bound does.
 const FILE_ROOM: usize = 8192;
@@ -16,35 +20,45 @@ const FILE_ROOM: usize = 8192;
 const LAYOUT_ROOM: usize = 64;
 
 // The layout's part, for the numbers of a problem that Read accepted.
-fn mark_layout(file: &[u8], n: usize, numbers: &Numbers, path: &[u8])
+fn mark_layout(
+    rt: &(impl Files + Print + Eprint + AllocGlobal),
+    file: &[u8],
+    n: usize,
+    numbers: &Numbers,
+    path: &str,
+) -> io::Result<()>
     requires { AcceptedFront file.now n numbers.now }
 {
     let mut layout = [0u8; LAYOUT_ROOM];
-    let filled = fill::from_file(path, &mut layout);
+    let filled = fill::from_file(rt, path, &mut layout)?;
     let BytesRead::To(m) = filled else {
-        return;
+        return Ok(());
     };
     let answer = front::bound(numbers, &layout, m);
     let mut slip = [0u8; slips::ROOM];
     let size = slips::bounded(answer, &mut slip);
-    show::print(file, n, &layout, m, &slip, size);
+    show::print(rt, file, n, &layout, m, &slip, size)
 }
 
 // The problem file comes from an open input, the layout from the file at path. The problem file is judged first: where Read refuses, the layout is not
 // opened. What cannot be read is told on standard error, the input by its name, and then nothing is printed.
-pub fn mark(input: i32, name: &[u8], path: &[u8]) {
+pub fn mark(
+    rt: &(impl Files + Print + Eprint + AllocGlobal),
+    input: &mut impl Read,
+    name: &str,
+    path: &str,
+) -> io::Result<()> {
     let mut file = [0u8; FILE_ROOM];
-    let filled = fill::from_input(input, name, &mut file);
+    let filled = fill::from_input(rt, input, name, &mut file)?;
     let BytesRead::To(n) = filled else {
-        return;
+        return Ok(());
     };
     let mut numbers = [0u64; places::END];
     let verdict = front::read(&file, n, &mut numbers);
     let Verdict::Accepted = verdict else {
         let mut slip = [0u8; slips::ROOM];
         let size = slips::refused(model::refusal_in(verdict), &mut slip);
-        show::print(&file, n, b"", 0, &slip, size);
-        return;
+        return show::print(rt, &file, n, b"", 0, &slip, size);
     };
-    mark_layout(&file, n, &numbers, path);
+    mark_layout(rt, &file, n, &numbers, path)
 }

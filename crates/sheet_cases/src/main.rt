@@ -3,36 +3,28 @@
 // zeros after it), and a folder, which opens and then cannot be read: a sheet that needs it is empty.
 #![tactic(auto)]
 
-use libc::STDOUT_FILENO;
-
-// Room for a title or a name.
-const ROOM: usize = 64;
+use std::rt::Files;
+use std::{env, fs, io};
 
 // The sheet of one case, behind its title.
-fn mark(title: &[u8], problem: &[u8], layout: &[u8]) {
-    io::write_all(STDOUT_FILENO, title);
-    io::write_all(STDOUT_FILENO, b":\n");
-    let input = os::open_read(problem);
-    sheet::mark(input, problem, layout);
-    libc::close(input);
-}
-
-fn case(title: usize, problem: usize, layout: usize) {
-    let mut title_text = [0u8; ROOM];
-    let mut problem_name = [0u8; ROOM];
-    let mut layout_name = [0u8; ROOM];
-    let t = os::arg(title, &mut title_text);
-    let p = os::arg(problem, &mut problem_name);
-    let l = os::arg(layout, &mut layout_name);
-    mark(&title_text[..t], &problem_name[..p], &layout_name[..l]);
+fn mark(
+    rt: &(impl Files + Print + Eprint + AllocGlobal),
+    title: &str,
+    problem: &str,
+    layout: &str,
+) -> io::Result<()> {
+    println!(rt; "{title}:")?;
+    match fs::open(rt, problem) {
+        Ok(mut input) => sheet::mark(rt, &mut input, problem, layout),
+        Err(error) => sheet::unreadable(rt, problem, &error),
+    }
 }
 
 // The first argument is the program's own name.
-fn main() {
-    let cases = os::arg_count() / 3;
-    let mut i: usize = 0;
-    while i < cases {
-        case(3 * i + 1, 3 * i + 2, 3 * i + 3);
-        i += 1;
+fn main(rt: HostRuntime) -> io::Result<()> {
+    let arguments: Vec<String> = env::args(&rt)?.skip(1).collect(rt.alloc())?;
+    for case in arguments.chunks_exact(3) {
+        mark(&rt, case[0].as_str(), case[1].as_str(), case[2].as_str())?;
     }
+    Ok(())
 }

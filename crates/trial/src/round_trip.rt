@@ -42,14 +42,14 @@ fn refused(out: &mut impl Write, name: &[u8], refusal: Refusal) -> io::Result<()
 }
 
 // Reads the file that was written, and shows whether it gives the problem again.
-fn read_back(out: &mut impl Write, name: &[u8], problem: Problem, file: &[u8]) -> io::Result<()> {
+fn read_back(out: &mut impl Write, name: &[u8], said: Numbers, file: &[u8]) -> io::Result<()> {
     let mut numbers = [0u64; places::END];
     let verdict = file::read_numbers(file, &mut numbers);
     match verdict {
         Verdict::Refused(refusal) => refused(out, name, refusal)?,
         Verdict::Accepted => {
             let back = records::problem_of(&numbers);
-            let same = same_numbers(numbers::numbers_of(problem), numbers::numbers_of(back));
+            let same = same_numbers(said, numbers::numbers_of(back));
             show::read_back(out, name, file.len() as u64, same)?;
         }
     }
@@ -73,12 +73,12 @@ fn write(
     }
 }
 
-// A problem's file, read back.
-pub fn run(out: &mut impl Write, name: &[u8], problem: Problem) -> io::Result<()> {
+// A problem's file, read back. The numbers are those that the problem says.
+pub fn run(out: &mut impl Write, name: &[u8], problem: Problem, said: Numbers) -> io::Result<()> {
     let mut room = [0u8; ROOM];
     let count = write(out, name, problem, &mut room)?;
     if count != 0 {
-        read_back(out, name, problem, front(&room, count))?;
+        read_back(out, name, said, front(&room, count))?;
     }
     Ok(())
 }

@@ -1,11 +1,7 @@
-use Prim.Native.Nat.{◌≤◌, ◌-◌}
 use native.Mathlib.Omega.{arith}
-use Rattle.model.specs.Numbers.{problem_of}
 use Rattle.model.proofs.Cases.{all_done}
 use Rattle.lookup.proofs.Places.{facts, few_vertices}
-use Rattle.model.specs.Places as places
-use Rattle.charges.specs.Tests.{flagged}
-use Rattle.charges.proofs.Filling.{ChargedTo, none_charged, one_charged, all_charged}
+use Rattle.charges.proofs.Filling.{none_charged, one_charged, all_charged}
 use Rattle.charges.proofs.fill_charges.Goals as goal
 
 pub loop-v-init : goal.loop-v-init

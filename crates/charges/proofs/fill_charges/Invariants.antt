@@ -1,12 +1,8 @@
 -- `charges::fill_charges` keeps the visit charges of the vertices passed.
 use Prim.Native.Nat.{◌≤◌, ◌-◌}
-use native.Mathlib.Omega.{arith}
 use Rattle.model.specs.Numbers.{problem_of}
-use Rattle.model.proofs.Cases.{all_done}
-use Rattle.lookup.proofs.Places.{facts, few_vertices}
-use Rattle.model.specs.Places as places
 use Rattle.charges.specs.Tests.{flagged}
-use Rattle.charges.proofs.Filling.{ChargedTo, none_charged, one_charged, all_charged}
+use Rattle.charges.proofs.Filling.{ChargedTo}
 use Rattle.charges.proofs.fill_charges.Given as goal
 
 abbrev pub invariant-loop-v : goal.invariant-loop-v

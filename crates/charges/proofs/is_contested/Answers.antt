@@ -1,7 +1,5 @@
 -- `charges::is_contested` answers whether the words of the vertex and of its function have a member in common.
-use Prim.Native.Nat.{◌<◌}
 use mathlib.Core.Path.{refl}
-use Rattle.model.specs.Places as places
 use Rattle.lookup.proofs.Places.{facts, vertex_small, function_small}
 use Rattle.charges.proofs.Answers.{contested_told}
 use native.Mathlib.Omega.{arith}

@@ -1,9 +1,6 @@
-use Prim.Native.Nat.{◌-◌}
 use native.Mathlib.Omega.{arith}
-use Rattle.model.specs.Numbers.{problem_of}
 use Rattle.lookup.proofs.Places.{facts, few_vertices}
-use Rattle.charges.specs.Tests.{contested_by}
-use Rattle.charges.proofs.Filling.{Tallying, tally_start, tally_more, tally_small, tally_end}
+use Rattle.charges.proofs.Filling.{tally_start, tally_more, tally_small, tally_end}
 use Rattle.charges.proofs.mark_contested.Goals as goal
 
 pub loop-v-init : goal.loop-v-init

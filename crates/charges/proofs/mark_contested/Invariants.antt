@@ -1,10 +1,8 @@
 -- `charges::mark_contested` keeps the answers for the vertices passed, and their count.
 use Prim.Native.Nat.{◌-◌}
-use native.Mathlib.Omega.{arith}
 use Rattle.model.specs.Numbers.{problem_of}
-use Rattle.lookup.proofs.Places.{facts, few_vertices}
 use Rattle.charges.specs.Tests.{contested_by}
-use Rattle.charges.proofs.Filling.{Tallying, tally_start, tally_more, tally_small, tally_end}
+use Rattle.charges.proofs.Filling.{Tallying}
 use Rattle.charges.proofs.mark_contested.Given as goal
 
 abbrev pub invariant-loop-v : goal.invariant-loop-v

@@ -1,10 +1,8 @@
 -- `charges::visit_charge` puts a visit's price together: own cost, plus flag times check cost, plus flag times load cost.
 use Prim.Native.Nat.{ℕ, ◌+◌}
-use mathlib.Core.Path.{◌≡◌, ap, ◌∙◌}
+use mathlib.Core.Path.{ap, ◌∙◌}
 use native.Mathlib.Nat.{mul-le-mul_right}
 use native.Mathlib.Omega.{arith}
-use Rattle.model.specs.Numbers.{problem_of}
-use Rattle.model.specs.Charges.{visit_charge}
 use Rattle.lookup.proofs.Places.{facts, vertex_small, check_high, cost_high}
 use Rattle.charges.specs.Tests.{flagged}
 use Rattle.charges.proofs.Flags.{flags_low}

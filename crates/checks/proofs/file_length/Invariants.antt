@@ -1,6 +1,4 @@
 -- `file_length` gives the length that the fields' checks found. In the other case it would go round for ever, and is never met.
-use mathlib.Core.Path.{sym, ◌∙◌}
-use Rattle.model.proofs.Answers.{refused_not_done}
 use Rattle.checks.proofs.file_length.Given as goal
 
 abbrev pub invariant-loop : goal.invariant-loop

@@ -1,5 +1,5 @@
 use native.Mathlib.Omega.{arith}
-use Rattle.decimals.proofs.Storing.{Counting, counting_start, counting_next, counted}
+use Rattle.decimals.proofs.Storing.{counting_start, counting_next, counted}
 use Rattle.decimals.proofs.decimal_size.Goals as goal
 
 pub loop-rest-init : goal.loop-rest-init

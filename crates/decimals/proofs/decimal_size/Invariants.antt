@@ -1,6 +1,5 @@
 -- `decimal_size` counts the digits.
-use native.Mathlib.Omega.{arith}
-use Rattle.decimals.proofs.Storing.{Counting, counting_start, counting_next, counted}
+use Rattle.decimals.proofs.Storing.{Counting}
 use Rattle.decimals.proofs.decimal_size.Given as goal
 
 abbrev pub invariant-loop-rest : goal.invariant-loop-rest

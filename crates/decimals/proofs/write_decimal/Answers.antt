@@ -1,5 +1,4 @@
-use native.Mathlib.Omega.{arith}
-use Rattle.decimals.proofs.Storing.{Storing, storing_start, storing_next, stored}
+use Rattle.decimals.proofs.Storing.{storing_start, storing_next, stored}
 use borrow.Author.Rules.{rules}
 use Rattle.decimals.proofs.write_decimal.Goals as goal
 

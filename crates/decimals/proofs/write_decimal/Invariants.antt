@@ -1,6 +1,5 @@
 -- `write_decimal` stores the digits.
-use native.Mathlib.Omega.{arith}
-use Rattle.decimals.proofs.Storing.{Storing, storing_start, storing_next, stored}
+use Rattle.decimals.proofs.Storing.{Storing}
 use Rattle.decimals.proofs.write_decimal.Given as goal
 
 abbrev pub invariant-loop-left : goal.invariant-loop-left

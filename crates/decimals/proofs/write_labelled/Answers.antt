@@ -7,9 +7,9 @@ use Rattle.decimals.proofs.write_labelled.Goals as goal
 pub write_decimal-requires : goal.write_decimal-requires
 write_decimal-requires c =
     let w = c.write_text-behind.ensures in
-        omega (arith, w.behind, written_size w, c.requires, word_digits _ c.ranges.n.fits)
+    omega (arith, w.behind, written_size w, c.requires, word_digits _ c.ranges.n.fits)
 
 pub returns : goal.returns
 returns c =
-            let w = c.write_text-behind.ensures in
+    let w = c.write_text-behind.ensures in
     record { written = written_both w c.write_decimal.ensures; upper_bound = omega (arith, w.behind, c.write_decimal.ensures.behind, word_digits _ c.ranges.n.fits) }

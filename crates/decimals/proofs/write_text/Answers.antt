@@ -1,7 +1,5 @@
-use Prim.Native.Nat.{◌-◌}
-use lib.ListN.{length}
 use native.Mathlib.Omega.{arith}
-use Rattle.model.proofs.Copies.{CopiedTo, copied_none, copied_more, copied_all}
+use Rattle.model.proofs.Copies.{copied_none, copied_more, copied_all}
 use borrow.Author.Rules.{rules}
 use Rattle.decimals.proofs.write_text.Goals as goal
 

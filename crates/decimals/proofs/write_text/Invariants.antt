@@ -1,8 +1,7 @@
 -- `write_text` stores the text.
 use Prim.Native.Nat.{◌-◌}
 use lib.ListN.{length}
-use native.Mathlib.Omega.{arith}
-use Rattle.model.proofs.Copies.{CopiedTo, copied_none, copied_more, copied_all}
+use Rattle.model.proofs.Copies.{CopiedTo}
 use Rattle.decimals.proofs.write_text.Given as goal
 
 abbrev pub invariant-loop-i : goal.invariant-loop-i

@@ -1,13 +1,8 @@
-use Prim.Native.Nat.{◌+◌, ◌*◌, ◌-◌, ◌<◌}
 use mathlib.Core.Path.{refl}
 use native.Mathlib.Omega.{arith}
-use lib.ListN.{get_or}
 use borrow.Author.Tests.{not-false}
-use Rattle.model.specs.File.{edge_span}
-use Rattle.edge_runs.specs.Edges.{Opens}
 use Rattle.edge_runs.proofs.Edges.{between, edge_room_lem}
-use Rattle.edge_runs.proofs.EdgesChecked.{Running, none_checked, started, ended, turn}
-use Rattle.model.specs.Places as places
+use Rattle.edge_runs.proofs.EdgesChecked.{none_checked, started, ended, turn}
 use Rattle.edge_runs.proofs.check_edges.Goals as goal
 
 pub returns-then-not-opens : goal.returns-then-not-opens

@@ -1,16 +1,9 @@
 -- `read_edge` reads both numbers of an edge that are sure to pass, or nothing.
-use Prim.Native.Nat.{ℕ, ◌+◌, ◌<◌}
-use mathlib.Core.Path.{◌≡◌, refl, sym, ◌∙◌}
+use mathlib.Core.Path.{refl, sym, ◌∙◌}
 use native.Mathlib.Omega.{arith}
-use lib.ListN.{get_or}
 use borrow.Author.Tests.{not-false}
-use Rattle.model.specs.declared.Number.TheVariants as number
-use Rattle.model.specs.Spelling.{read_number}
-use Rattle.model.specs.File.{edge_span}
-use Rattle.edge_runs.specs.Edges.{Opens}
 use Rattle.edge_runs.proofs.Items.{none_taken}
 use Rattle.edge_runs.proofs.EdgesRead.{edge_fits, edge_taken}
-use Rattle.model.specs.Places as places
 use Rattle.edge_runs.proofs.read_edge.Goals as goal
 
 pub returns-then-not-opens : goal.returns-then-not-opens

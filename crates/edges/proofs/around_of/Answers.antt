@@ -1,9 +1,7 @@
 use Rattle.edges.proofs.Words.{held_none, held_more}
-use Prim.Native.Nat.{◌-◌, ◌≤◌}
-use mathlib.Core.Path.{◌≡◌}
 use native.Mathlib.Omega.{arith}
-use Rattle.model.proofs.Filling.{FilledTo, filled_none, filled_more}
-use Rattle.edges.specs.Words.{around_at, held_over}
+use Rattle.model.proofs.Filling.{filled_none, filled_more}
+use Rattle.edges.specs.Words.{around_at}
 use Rattle.model.specs.Places as places
 use Rattle.edges.proofs.around_of.Goals as goal
 

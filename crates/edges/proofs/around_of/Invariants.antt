@@ -1,9 +1,7 @@
 -- `edges::around_of` meets its contract: of the first v vertices the loops around are known, and which of them are held over to v.
-use Rattle.edges.proofs.Words.{held_none, held_more}
 use Prim.Native.Nat.{◌-◌, ◌≤◌}
 use mathlib.Core.Path.{◌≡◌}
-use native.Mathlib.Omega.{arith}
-use Rattle.model.proofs.Filling.{FilledTo, filled_none, filled_more}
+use Rattle.model.proofs.Filling.{FilledTo}
 use Rattle.edges.specs.Words.{around_at, held_over}
 use Rattle.model.specs.Places as places
 use Rattle.edges.proofs.around_of.Given as goal

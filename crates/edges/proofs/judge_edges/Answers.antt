@@ -1,15 +1,9 @@
-use mathlib.Core.Path.{◌≡◌, sym, ◌∙◌}
+use mathlib.Core.Path.{sym, ◌∙◌}
 use Rattle.edges.proofs.Words.{wrong_edge_lem, returned_none, returned_more, answers_wrong, answers_returns}
-use Prim.Native.Nat.{◌-◌, ◌<◌}
 use native.Mathlib.Omega.{arith}
-use lib.ListN.{length}
-use Rattle.model.specs.Graph.{edge, wrong_edge}
 use Rattle.model.proofs.Cases.{all_done}
-use Rattle.model.proofs.Search.{Searched, start, miss}
-use Rattle.lookup.specs.Lists.{vertices_in, edges_in, loops_in}
+use Rattle.model.proofs.Search.{start, miss}
 use Rattle.lookup.proofs.Places.{few_vertices, from_below, to_below}
-use Rattle.edges.specs.Words.{returned_by}
-use Rattle.model.specs.Places as places
 use Rattle.edges.proofs.judge_edges.Goals as goal
 
 pub loop-i-init : goal.loop-i-init

@@ -1,16 +1,11 @@
 -- `edges::judge_edges` answers with the lowest wrong edge, or with the loops that the edges return to.
-use mathlib.Core.Path.{◌≡◌, sym, ◌∙◌}
-use Rattle.edges.proofs.Words.{wrong_edge_lem, returned_none, returned_more, answers_wrong, answers_returns}
-use Prim.Native.Nat.{◌-◌, ◌<◌}
-use native.Mathlib.Omega.{arith}
+use mathlib.Core.Path.{◌≡◌}
+use Prim.Native.Nat.{◌-◌}
 use lib.ListN.{length}
 use Rattle.model.specs.Graph.{edge, wrong_edge}
-use Rattle.model.proofs.Cases.{all_done}
-use Rattle.model.proofs.Search.{Searched, start, miss}
-use Rattle.lookup.specs.Lists.{vertices_in, edges_in, loops_in}
-use Rattle.lookup.proofs.Places.{few_vertices, from_below, to_below}
+use Rattle.model.proofs.Search.{Searched}
+use Rattle.lookup.specs.Lists.{edges_in, loops_in}
 use Rattle.edges.specs.Words.{returned_by}
-use Rattle.model.specs.Places as places
 use Rattle.edges.proofs.judge_edges.Given as goal
 
 abbrev pub invariant-loop-i : goal.invariant-loop-i

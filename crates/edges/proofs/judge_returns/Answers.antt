@@ -1,14 +1,9 @@
-use mathlib.Core.Path.{◌≡◌, ◌∙◌}
-use mathlib.Core.Bool.{not}
+use mathlib.Core.Path.{◌∙◌}
 use Rattle.lookup.proofs.Places.{loop_small}
 use Rattle.edges.proofs.Words.{lacking}
-use Prim.Native.Nat.{◌-◌}
 use native.Mathlib.Omega.{arith}
-use lib.ListN.{length}
 use Rattle.model.specs.declared.Refusal.TheVariants.{NoEdgeBack}
-use Rattle.model.specs.Graph.{loop, no_return}
-use Rattle.model.proofs.Search.{Searched, start, miss, broken_hit, broken_none}
-use Rattle.lookup.specs.Lists.{edges_in, loops_in}
+use Rattle.model.proofs.Search.{start, miss, broken_hit, broken_none}
 use Rattle.edges.proofs.judge_returns.Goals as goal
 
 pub loop-j-init : goal.loop-j-init

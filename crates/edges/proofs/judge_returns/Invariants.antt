@@ -1,14 +1,8 @@
 -- `edges::judge_returns` refuses at the lowest loop that no edge returns to.
-use mathlib.Core.Path.{◌≡◌, ◌∙◌}
-use mathlib.Core.Bool.{not}
-use Rattle.lookup.proofs.Places.{loop_small}
-use Rattle.edges.proofs.Words.{lacking}
 use Prim.Native.Nat.{◌-◌}
-use native.Mathlib.Omega.{arith}
 use lib.ListN.{length}
-use Rattle.model.specs.declared.Refusal.TheVariants.{NoEdgeBack}
 use Rattle.model.specs.Graph.{loop, no_return}
-use Rattle.model.proofs.Search.{Searched, start, miss, broken_hit, broken_none}
+use Rattle.model.proofs.Search.{Searched}
 use Rattle.lookup.specs.Lists.{edges_in, loops_in}
 use Rattle.edges.proofs.judge_returns.Given as goal
 

@@ -1,15 +1,10 @@
 -- `edges::judge_words` is its definition: rule 9 on the good case of rule 8, each told by the words.
 use mathlib.Core.Path.{refl, sym, ◌∙◌}
-use Prim.Native.Nat.{◌≤◌}
 use native.Mathlib.Omega.{arith}
-use Rattle.lookup.specs.Lists.{vertices_in, loops_in}
 use Rattle.lookup.proofs.Places.{few_vertices, from_below, to_below}
-use Rattle.ranges.specs.Ranges.{Ranged}
 use Rattle.ranges.proofs.Listed.{loops_ranged}
-use Rattle.edges.specs.Words.{Around}
 use Rattle.edges.proofs.Rules.{stops, goes}
 use Rattle.edges.proofs.Words.{headed_is, around_is, told_returned, wrong_says, returns_say}
-use Rattle.model.specs.Places as places
 use Rattle.edges.proofs.judge_words.Goals as goal
 
 pub around_of-around-requires : goal.around_of-around-requires

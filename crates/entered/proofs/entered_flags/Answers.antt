@@ -1,12 +1,7 @@
-use Prim.Native.Nat.{◌-◌, ◌≤◌, ◌<◌}
 use native.Mathlib.Omega.{arith}
-use lib.ListN.{length}
-use Rattle.model.specs.Numbers.{problem_of}
-use Rattle.model.specs.Graph.{edges_of}
-use Rattle.model.specs.Places as places
 use Rattle.model.proofs.Cases.{all_done}
 use Rattle.lookup.proofs.Places.{facts, to_small}
-use Rattle.entered.proofs.Marking.{Marked, none_marked, one_marked, all_marked}
+use Rattle.entered.proofs.Marking.{none_marked, one_marked, all_marked}
 use Rattle.entered.proofs.entered_flags.Goals as goal
 
 pub edge_count-count-requires : goal.edge_count-count-requires

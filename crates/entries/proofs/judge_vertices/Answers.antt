@@ -1,13 +1,9 @@
-use Prim.Native.Nat.{◌-◌, ◌<◌}
-use mathlib.Core.Path.{◌≡◌, sym, ◌∙◌}
+use mathlib.Core.Path.{sym, ◌∙◌}
 use native.Mathlib.Omega.{arith}
 use Rattle.model.specs.declared.Refusal.TheVariants.{MissingEdge}
-use Rattle.model.specs.Graph.{lacks}
-use Rattle.model.proofs.Search.{Searched, start, miss, broken_hit, broken_none}
-use Rattle.lookup.specs.Lists.{vertices_in, edges_in}
+use Rattle.model.proofs.Search.{start, miss, broken_hit, broken_none}
 use Rattle.lookup.proofs.Places.{some_vertex, few_vertices}
 use Rattle.entries.proofs.Marks.{none_marked, lacks_told}
-use Rattle.model.specs.Places as places
 use Rattle.entries.proofs.judge_vertices.Goals as goal
 
 pub mark_ends-requires : goal.mark_ends-requires

@@ -1,12 +1,9 @@
 use mathlib.Core.Path.{◌≡◌}
 use Rattle.lookup.proofs.Places.{from_small, to_small}
 use Rattle.entries.proofs.Marks.{more_marked}
-use Prim.Native.Nat.{◌-◌, ◌≤◌, ◌<◌}
 use native.Mathlib.Omega.{arith}
 use lib.ListN.{length}
 use Rattle.lookup.specs.Lists.{edges_in}
-use Rattle.entries.specs.Marks.{EndsMarked}
-use Rattle.model.specs.Places as places
 use Rattle.entries.proofs.mark_ends.Goals as goal
 
 pub loop-i-init : goal.loop-i-init

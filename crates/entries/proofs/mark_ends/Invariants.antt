@@ -1,13 +1,8 @@
 -- `entries::mark_ends` meets its contract: the first i edges have made their marks.
-use mathlib.Core.Path.{◌≡◌}
-use Rattle.lookup.proofs.Places.{from_small, to_small}
-use Rattle.entries.proofs.Marks.{more_marked}
-use Prim.Native.Nat.{◌-◌, ◌≤◌, ◌<◌}
-use native.Mathlib.Omega.{arith}
+use Prim.Native.Nat.{◌-◌, ◌≤◌}
 use lib.ListN.{length}
 use Rattle.lookup.specs.Lists.{edges_in}
 use Rattle.entries.specs.Marks.{EndsMarked}
-use Rattle.model.specs.Places as places
 use Rattle.entries.proofs.mark_ends.Given as goal
 
 abbrev pub invariant-loop-i : goal.invariant-loop-i

@@ -1,10 +1,7 @@
 -- `in_range` meets its definition: below the row, above it, past the count that narrows it, below its header, or as `zero_unwritten` says.
-use Prim.Native.Nat.{◌≤◌}
-use mathlib.Core.Path.{◌≡◌, sym, ◌∙◌}
+use mathlib.Core.Path.{sym, ◌∙◌}
 use native.Mathlib.Omega.{arith}
 use borrow.Author.Tests.{not-true, not-false}
-use mathlib.Core.Bool.{true}
-use Rattle.model.specs.Table.{least, greatest}
 use Rattle.model.specs.File.{below_count}
 use Rattle.fields.proofs.Laws.{too_low, too_high, past_count, past_header, within}
 use Rattle.field_rules.proofs.in_range.Goals as goal

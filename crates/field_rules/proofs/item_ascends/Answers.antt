@@ -1,9 +1,6 @@
 -- `item_ascends` meets its definition: the first item, an edge, a loop, or an item without an order.
-use Prim.Native.Nat.{◌+◌, ◌≤◌}
 use native.Mathlib.Omega.{arith}
-use Rattle.model.specs.File.{edge_span, loop_span}
 use Rattle.fields.proofs.Laws.{first_item, edge_ascends, loop_ascends, no_order, edge_place, loop_place}
-use Rattle.model.specs.Places as places
 use Rattle.field_rules.proofs.item_ascends.Goals as goal
 
 pub returns-then-k-look_up : goal.returns-then-k-look_up

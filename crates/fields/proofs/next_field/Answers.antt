@@ -10,4 +10,4 @@ returns-then-kind-eq-LAST c = next_ended _ _ _ c.look_up-kind.ensures c.if-kind-
 
 pub returns : goal.returns
 returns c =
-        next_within _ _ _ c.look_up-kind.ensures c.if-kind-eq-COUNT.false c.if-kind-eq-LAST.false
+    next_within _ _ _ c.look_up-kind.ensures c.if-kind-eq-COUNT.false c.if-kind-eq-LAST.false

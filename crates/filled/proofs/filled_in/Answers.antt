@@ -1,8 +1,7 @@
-use Prim.Native.Nat.{◌-◌, ◌≤◌}
+use Prim.Native.Nat.{◌≤◌}
 use mathlib.Core.Path.{refl}
 use native.Mathlib.Omega.{arith}
 use lib.ListN.{length}
-use Rattle.filled.specs.Filling.{UsedBelow, Filling}
 use Rattle.filled.proofs.Filling.{filling_more, filling_all, free_region, none_below_zero, still_below}
 use Rattle.filled.proofs.filled_in.Goals as goal
 

@@ -1,10 +1,6 @@
 -- `filled_in` is its definition: what is listed, and then a free region a function.
 use Prim.Native.Nat.{◌-◌, ◌≤◌}
-use mathlib.Core.Path.{refl}
-use native.Mathlib.Omega.{arith}
-use lib.ListN.{length}
 use Rattle.filled.specs.Filling.{UsedBelow, Filling}
-use Rattle.filled.proofs.Filling.{filling_more, filling_all, free_region, none_below_zero, still_below}
 use Rattle.filled.proofs.filled_in.Given as goal
 
 abbrev pub invariant-loop-f : goal.invariant-loop-f

@@ -1,7 +1,5 @@
-use Prim.Native.Nat.{◌-◌, ◌≤◌}
 use mathlib.Core.Path.{sym}
 use native.Mathlib.Omega.{arith}
-use Rattle.filled.specs.Filling.{Filling}
 use Rattle.filled.proofs.Filled.{listed}
 use Rattle.filled.proofs.Filling.{filling_none, filling_more, kept_all}
 use Rattle.filled.proofs.keep_listed.Goals as goal

@@ -1,10 +1,7 @@
-use Prim.Native.Nat.{◌-◌}
 use mathlib.Core.Path.{sym, ap, ◌∙◌}
 use mathlib.Core.Bool.{not}
 use native.Mathlib.Omega.{arith}
-use Rattle.model.specs.Limits.{most_regions}
-use Rattle.model.proofs.Search.{Searched, miss, hit, none}
-use Rattle.bits.specs.Tests.{has}
+use Rattle.model.proofs.Search.{miss, hit, none}
 use Rattle.filled.proofs.Filling.{searched_from}
 use Rattle.filled.proofs.lowest_free.Goals as goal
 

@@ -1,12 +1,9 @@
 -- `lowest_free` is its definition. The loop's invariant: the regions passed over are in use.
 use Prim.Native.Nat.{◌-◌}
-use mathlib.Core.Path.{sym, ap, ◌∙◌}
 use mathlib.Core.Bool.{not}
-use native.Mathlib.Omega.{arith}
 use Rattle.model.specs.Limits.{most_regions}
-use Rattle.model.proofs.Search.{Searched, miss, hit, none}
+use Rattle.model.proofs.Search.{Searched}
 use Rattle.bits.specs.Tests.{has}
-use Rattle.filled.proofs.Filling.{searched_from}
 use Rattle.filled.proofs.lowest_free.Given as goal
 
 abbrev pub invariant-loop-region : goal.invariant-loop-region

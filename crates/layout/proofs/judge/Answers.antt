@@ -1,9 +1,6 @@
 -- `layout::judge` is its definition: 11, 12 and 13, each on the good case of the one before.
-use mathlib.Core.Path.{◌≡◌, sym, ◌∙◌}
-use Rattle.model.specs.declared.Problem.{Problem}
+use mathlib.Core.Path.{sym, ◌∙◌}
 use Rattle.model.specs.Numbers.{problem_of}
-use Rattle.model.specs.Layouts.{region_of}
-use Rattle.regions.specs.Regions.{ListsAll}
 use Rattle.layout.proofs.Alike.{alike_regions, alike_need}
 use Rattle.layout.proofs.FilledIn.{lists_all, regions_same}
 use Rattle.layout.proofs.Judged.{bad_length, bad_region, too_large, fits}

@@ -1,12 +1,10 @@
 use Prim.Native.Nat.{◌-◌}
 use native.Mathlib.Omega.{arith}
 use borrow.Author.Tests.{lt-ltb, le-ltb}
-use lib.Dec.{ltb}
 use Rattle.model.specs.declared.Refusal.TheVariants.{UnknownRegion}
 use Rattle.model.specs.Limits.{most_regions}
-use Rattle.model.specs.Numbers.{problem_of}
 use Rattle.model.specs.Layouts.{region_of}
-use Rattle.model.proofs.Search.{Searched, start, miss, broken_hit, broken_none}
+use Rattle.model.proofs.Search.{start, miss, broken_hit, broken_none}
 use Rattle.layout.proofs.judge_regions.Goals as goal
 
 pub loop-f-init : goal.loop-f-init

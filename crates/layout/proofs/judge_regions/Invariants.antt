@@ -1,13 +1,10 @@
 -- `layout::judge_regions` is its definition, 12: the lowest function with a region above the last is refused.
 use Prim.Native.Nat.{◌-◌}
-use native.Mathlib.Omega.{arith}
-use borrow.Author.Tests.{lt-ltb, le-ltb}
 use lib.Dec.{ltb}
-use Rattle.model.specs.declared.Refusal.TheVariants.{UnknownRegion}
 use Rattle.model.specs.Limits.{most_regions}
 use Rattle.model.specs.Numbers.{problem_of}
 use Rattle.model.specs.Layouts.{region_of}
-use Rattle.model.proofs.Search.{Searched, start, miss, broken_hit, broken_none}
+use Rattle.model.proofs.Search.{Searched}
 use Rattle.layout.proofs.judge_regions.Given as goal
 
 abbrev pub invariant-loop-f : goal.invariant-loop-f

@@ -1,9 +1,7 @@
 -- `put_edges` meets its contract. The loop's invariant: the numbers of the first i edges are stored.
 use Prim.Native.Nat.{◌-◌}
-use Rattle.model.specs.declared.Edge.{Edge}
-use Rattle.model.specs.Zero.{zero_edge}
 use Rattle.model.specs.Numbers.{edge_numbers}
-use Rattle.numbers.proofs.Places.{Storing, stored_none, stored_two, stored_all}
+use Rattle.numbers.proofs.Places.{Storing}
 use Rattle.model.specs.Places as places
 use Rattle.numbers.proofs.put_edges.Given as goal
 

@@ -1,9 +1,7 @@
 -- `put_functions` meets its contract. The loop's invariant: the numbers of the first i functions are stored.
 use Prim.Native.Nat.{◌-◌}
-use Rattle.model.specs.declared.Function.{Function}
-use Rattle.model.specs.Zero.{zero_function}
 use Rattle.model.specs.Numbers.{function_numbers}
-use Rattle.numbers.proofs.Places.{Storing, stored_none, stored_three, stored_all}
+use Rattle.numbers.proofs.Places.{Storing}
 use Rattle.model.specs.Places as places
 use Rattle.numbers.proofs.put_functions.Given as goal
 

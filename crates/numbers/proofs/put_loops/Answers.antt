@@ -1,8 +1,7 @@
-use Prim.Native.Nat.{◌-◌}
 use Rattle.model.specs.declared.Loop.{Loop}
 use Rattle.model.specs.Zero.{zero_loop}
 use Rattle.model.specs.Numbers.{loop_numbers}
-use Rattle.numbers.proofs.Places.{Storing, stored_none, stored_three, stored_all}
+use Rattle.numbers.proofs.Places.{stored_none, stored_three, stored_all}
 use Rattle.model.specs.Places as places
 use borrow.Author.Rules.{rules}
 use Rattle.numbers.proofs.put_loops.Goals as goal

@@ -1,9 +1,7 @@
 -- `put_loops` meets its contract. The loop's invariant: the numbers of the first i loops are stored.
 use Prim.Native.Nat.{◌-◌}
-use Rattle.model.specs.declared.Loop.{Loop}
-use Rattle.model.specs.Zero.{zero_loop}
 use Rattle.model.specs.Numbers.{loop_numbers}
-use Rattle.numbers.proofs.Places.{Storing, stored_none, stored_three, stored_all}
+use Rattle.numbers.proofs.Places.{Storing}
 use Rattle.model.specs.Places as places
 use Rattle.numbers.proofs.put_loops.Given as goal
 

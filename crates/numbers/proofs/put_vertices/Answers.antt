@@ -1,8 +1,7 @@
-use Prim.Native.Nat.{◌-◌}
 use Rattle.model.specs.declared.Vertex.{Vertex}
 use Rattle.model.specs.Zero.{zero_vertex}
 use Rattle.model.specs.Numbers.{vertex_numbers}
-use Rattle.numbers.proofs.Places.{Storing, stored_none, stored_two, stored_all}
+use Rattle.numbers.proofs.Places.{stored_none, stored_two, stored_all}
 use Rattle.model.specs.Places as places
 use borrow.Author.Rules.{rules}
 use Rattle.numbers.proofs.put_vertices.Goals as goal

@@ -1,9 +1,7 @@
 -- `put_vertices` meets its contract. The loop's invariant: the numbers of the first i vertices are stored.
 use Prim.Native.Nat.{◌-◌}
-use Rattle.model.specs.declared.Vertex.{Vertex}
-use Rattle.model.specs.Zero.{zero_vertex}
 use Rattle.model.specs.Numbers.{vertex_numbers}
-use Rattle.numbers.proofs.Places.{Storing, stored_none, stored_two, stored_all}
+use Rattle.numbers.proofs.Places.{Storing}
 use Rattle.model.specs.Places as places
 use Rattle.numbers.proofs.put_vertices.Given as goal
 

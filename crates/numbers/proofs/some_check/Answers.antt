@@ -1,6 +1,5 @@
-use Prim.Native.Nat.{◌-◌}
 use native.Mathlib.Omega.{arith}
-use Rattle.numbers.proofs.Written.{Checking, checking_start, check_found, check_missed, check_placed, check_none}
+use Rattle.numbers.proofs.Written.{checking_start, check_found, check_missed, check_placed, check_none}
 use Rattle.numbers.proofs.some_check.Goals as goal
 
 pub loop-i-init : goal.loop-i-init

@@ -1,6 +1,4 @@
-use Prim.Native.Nat.{◌-◌}
-use Rattle.numbers.proofs.Edition.{WithEdition, with_none, with_more, with_all}
-use Rattle.model.specs.Places as places
+use Rattle.numbers.proofs.Edition.{with_none, with_more, with_all}
 use borrow.Author.Rules.{rules}
 use Rattle.numbers.proofs.with_edition.Goals as goal
 

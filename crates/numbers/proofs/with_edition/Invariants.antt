@@ -1,6 +1,6 @@
 -- `with_edition` meets its contract. The loop's invariant: the edition and the first i fields are in place.
 use Prim.Native.Nat.{◌-◌}
-use Rattle.numbers.proofs.Edition.{WithEdition, with_none, with_more, with_all}
+use Rattle.numbers.proofs.Edition.{WithEdition}
 use Rattle.model.specs.Places as places
 use Rattle.numbers.proofs.with_edition.Given as goal
 

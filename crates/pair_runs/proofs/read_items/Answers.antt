@@ -1,11 +1,8 @@
-use Prim.Native.Nat.{◌-◌}
 use mathlib.Core.Path.{sym}
 use native.Mathlib.Omega.{arith}
 use borrow.Author.Tests.{not-false}
 use Rattle.fields.proofs.Steps.{placed}
-use Rattle.edge_runs.specs.Edges.{PairsRead}
 use Rattle.edge_runs.proofs.Items.{none_read, two_runs}
-use Rattle.pair_runs.specs.Pairs.{Item}
 use Rattle.pair_runs.proofs.Pairs.{item_going}
 use Rattle.pair_runs.proofs.read_items.Goals as goal
 
@@ -23,13 +20,13 @@ past_pairs-here-requires c =
 pub read_item-next-requires : goal.read_item-next-requires
 read_item-next-requires c =
     let run = c.loop-items.invariant in
-    rw c.past_pairs-here.ensures (
-      c.requires.table_value,
-      (
+    rw c.past_pairs-here.ensures (record {
+      table_value = c.requires.table_value;
+      at_item = (
         record { readable = record { inside = run.inside; valid = run.valid; long = run.long }; more = omega (arith, c.loop-items-test.true) },
-        (c.is_item.ensures (not-false _ c.if-not-is_item.false-raw)),
-      ),
-    )
+        c.is_item.ensures (not-false _ c.if-not-is_item.false-raw),
+      );
+    })
 
 pub returns-then-next-eq0 : goal.returns-then-next-eq0
 returns-then-next-eq0 c = rw (c.read_item-next.ensures.left c.if-next-eq0.true) c.loop-items.invariant

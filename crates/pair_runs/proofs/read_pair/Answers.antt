@@ -1,15 +1,10 @@
 -- `read_pair` reads both numbers of an item that are sure to pass, or nothing.
-use Prim.Native.Nat.{ℕ}
-use mathlib.Core.Path.{◌≡◌, sym, ◌∙◌}
-use mathlib.Core.Bool.{true}
+use mathlib.Core.Path.{sym, ◌∙◌}
 use native.Mathlib.Omega.{arith}
 use borrow.Author.Tests.{not-false}
-use Rattle.model.specs.declared.Number.TheVariants as number
-use Rattle.model.specs.Spelling.{read_number}
 use Rattle.model.specs.File.{in_range}
-use Rattle.fields.specs.Valid.{Placed}
 use Rattle.edge_runs.proofs.Items.{none_taken}
-use Rattle.pair_runs.proofs.Pairs.{behind, here_placed, behind_placed, Found, pair_taken}
+use Rattle.pair_runs.proofs.Pairs.{here_placed, behind_placed, pair_taken}
 use Rattle.pair_runs.proofs.read_pair.Goals as goal
 
 pub returns-in_default : goal.returns-in_default

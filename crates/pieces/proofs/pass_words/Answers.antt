@@ -1,6 +1,4 @@
-use Prim.Native.Nat.{◌-◌}
-use lib.ListN.{length}
-use Rattle.pieces.proofs.Reading.{Passing, passing_start, stop_short, stop_differs, passing_next, passed_all}
+use Rattle.pieces.proofs.Reading.{passing_start, stop_short, stop_differs, passing_next, passed_all}
 use borrow.Author.Rules.{rules}
 use Rattle.pieces.proofs.pass_words.Goals as goal
 

@@ -1,7 +1,7 @@
 -- `pass_words` goes as far as the words stand there.
 use Prim.Native.Nat.{◌-◌}
 use lib.ListN.{length}
-use Rattle.pieces.proofs.Reading.{Passing, passing_start, stop_short, stop_differs, passing_next, passed_all}
+use Rattle.pieces.proofs.Reading.{Passing}
 use Rattle.pieces.proofs.pass_words.Given as goal
 
 abbrev pub invariant-loop-i : goal.invariant-loop-i

@@ -1,10 +1,8 @@
-use Prim.Native.Nat.{◌-◌}
 use mathlib.Core.Path.{sym, ◌∙◌}
 use native.Mathlib.Omega.{arith}
-use lib.ListN.{length}
 use borrow.Author.Tests.{not-true, not-false}
 use Rattle.grammar.proofs.Numerals.{opens_gives, fits_gives}
-use Rattle.pieces.proofs.Reading.{Underway, none_left, none_opens, first_read, stops_at_end, stops_here, goes_on}
+use Rattle.pieces.proofs.Reading.{none_left, none_opens, first_read, stops_at_end, stops_here, goes_on}
 use borrow.Author.Rules.{rules}
 use Rattle.pieces.proofs.read_decimal.Goals as goal
 

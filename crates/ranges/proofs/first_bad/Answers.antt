@@ -1,8 +1,7 @@
-use Rattle.std.proofs.Common.{◌≡◌, ◌∙◌, ap, sym, length, add-one, arith, ℕ}
+use Rattle.std.proofs.Common.{◌≡◌, ◌∙◌, ap, length, add-one, arith, ℕ}
 use Rattle.model.specs.Search.{lowest_below}
 use Rattle.ranges.specs.declared.Compared.{Compared}
 use Rattle.ranges.specs.Ranges.{bad_at}
-use Rattle.ranges.specs.Comparing.{compared_to}
 use Rattle.ranges.proofs.Turns.{compared_none, compared_more, compared_bad}
 use Rattle.ranges.proofs.first_bad.Goals as goal
 

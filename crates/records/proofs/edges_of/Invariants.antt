@@ -2,7 +2,7 @@
 use Prim.Native.Nat.{◌-◌}
 use Rattle.model.specs.Zero.{zero_edge}
 use Rattle.model.specs.Numbers.{edge_at}
-use Rattle.model.proofs.Filling.{FilledTo, filled_none, filled_more, filled_all}
+use Rattle.model.proofs.Filling.{FilledTo}
 use Rattle.model.specs.Places as places
 use Rattle.records.proofs.edges_of.Given as goal
 

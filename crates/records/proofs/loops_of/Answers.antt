@@ -1,7 +1,6 @@
-use Prim.Native.Nat.{◌-◌}
 use Rattle.model.specs.Zero.{zero_loop}
 use Rattle.model.specs.Numbers.{loop_at}
-use Rattle.model.proofs.Filling.{FilledTo, filled_none, filled_more, filled_all}
+use Rattle.model.proofs.Filling.{filled_none, filled_more, filled_all}
 use Rattle.model.specs.Places as places
 use Rattle.records.proofs.loops_of.Goals as goal
 

@@ -2,7 +2,7 @@
 use Prim.Native.Nat.{◌-◌}
 use Rattle.model.specs.Zero.{zero_vertex}
 use Rattle.model.specs.Numbers.{vertex_at}
-use Rattle.model.proofs.Filling.{FilledTo, filled_none, filled_more, filled_all}
+use Rattle.model.proofs.Filling.{FilledTo}
 use Rattle.model.specs.Places as places
 use Rattle.records.proofs.vertices_of.Given as goal
 

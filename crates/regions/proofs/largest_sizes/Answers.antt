@@ -1,8 +1,6 @@
-use Prim.Native.Nat.{◌-◌}
 use native.Mathlib.Omega.{arith}
 use Rattle.lookup.proofs.Places.{facts}
-use Rattle.model.specs.Numbers.{problem_of}
-use Rattle.regions.proofs.Sizes.{Sizing, none_sized, one_sized, all_sized}
+use Rattle.regions.proofs.Sizes.{none_sized, one_sized, all_sized}
 use Rattle.regions.proofs.largest_sizes.Goals as goal
 
 pub loop-f-init : goal.loop-f-init

@@ -1,9 +1,7 @@
 -- `layout::largest_sizes` keeps the largest sizes of the regions among the functions passed.
 use Prim.Native.Nat.{◌-◌}
-use native.Mathlib.Omega.{arith}
-use Rattle.lookup.proofs.Places.{facts}
 use Rattle.model.specs.Numbers.{problem_of}
-use Rattle.regions.proofs.Sizes.{Sizing, none_sized, one_sized, all_sized}
+use Rattle.regions.proofs.Sizes.{Sizing}
 use Rattle.regions.proofs.largest_sizes.Given as goal
 
 abbrev pub invariant-loop-f : goal.invariant-loop-f

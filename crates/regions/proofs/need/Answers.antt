@@ -1,11 +1,9 @@
-use Prim.Native.Nat.{◌+◌, ◌-◌}
+use Prim.Native.Nat.{◌+◌}
 use mathlib.Core.Path.{refl}
 use native.Mathlib.Omega.{arith}
-use Rattle.model.specs.Limits.{most_regions}
-use Rattle.model.specs.Numbers.{problem_of}
 use Rattle.model.specs.Costs.{total}
-use Rattle.model.specs.Layouts.{largest_in, need_of}
-use Rattle.regions.proofs.Sums.{Upto, turn, end, total_more}
+use Rattle.model.specs.Layouts.{need_of}
+use Rattle.regions.proofs.Sums.{turn, end, total_more}
 use Rattle.regions.proofs.Most.{sum_high}
 use Rattle.regions.proofs.need.Goals as goal
 

@@ -1,13 +1,10 @@
 -- `layout::need` adds up the largest sizes of the regions passed.
-use Prim.Native.Nat.{◌+◌, ◌-◌}
-use mathlib.Core.Path.{refl}
-use native.Mathlib.Omega.{arith}
+use Prim.Native.Nat.{◌-◌}
 use Rattle.model.specs.Limits.{most_regions}
 use Rattle.model.specs.Numbers.{problem_of}
 use Rattle.model.specs.Costs.{total}
-use Rattle.model.specs.Layouts.{largest_in, need_of}
-use Rattle.regions.proofs.Sums.{Upto, turn, end, total_more}
-use Rattle.regions.proofs.Most.{sum_high}
+use Rattle.model.specs.Layouts.{largest_in}
+use Rattle.regions.proofs.Sums.{Upto}
 use Rattle.regions.proofs.need.Given as goal
 
 abbrev pub invariant-loop-region : goal.invariant-loop-region

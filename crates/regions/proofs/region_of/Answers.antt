@@ -1,6 +1,5 @@
 -- `region_of` is what the layout lists for the function.
 use mathlib.Core.Path.{sym}
-use native.Mathlib.Omega.{arith}
 use Rattle.filled.proofs.Filled.{listed}
 use Rattle.regions.proofs.region_of.Goals as goal
 

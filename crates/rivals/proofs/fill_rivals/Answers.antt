@@ -1,11 +1,6 @@
-use Prim.Native.Nat.{◌-◌, ◌≤◌, ◌<◌}
 use native.Mathlib.Omega.{arith}
-use Rattle.model.specs.Numbers.{problem_of}
 use Rattle.lookup.proofs.Places.{facts, few_functions}
-use Rattle.rivals.specs.Rivals.{RivalsBelow}
 use Rattle.rivals.proofs.Gathered.{no_rivals, one_rival, all_rivals}
-use Rattle.model.specs.Places as places
-use Rattle.model.specs.Limits as limits
 use Rattle.rivals.proofs.fill_rivals.Goals as goal
 
 pub loop-f-init : goal.loop-f-init

@@ -1,12 +1,8 @@
 -- `fill_rivals` has the others of the regions of the functions passed.
-use Prim.Native.Nat.{◌-◌, ◌≤◌, ◌<◌}
-use native.Mathlib.Omega.{arith}
+use Prim.Native.Nat.{◌-◌, ◌≤◌}
 use Rattle.model.specs.Numbers.{problem_of}
-use Rattle.lookup.proofs.Places.{facts, few_functions}
 use Rattle.rivals.specs.Rivals.{RivalsBelow}
-use Rattle.rivals.proofs.Gathered.{no_rivals, one_rival, all_rivals}
 use Rattle.model.specs.Places as places
-use Rattle.model.specs.Limits as limits
 use Rattle.rivals.proofs.fill_rivals.Given as goal
 
 abbrev pub invariant-loop-f : goal.invariant-loop-f

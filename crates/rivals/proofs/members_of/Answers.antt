@@ -1,12 +1,7 @@
-use Prim.Native.Nat.{◌-◌, ◌≤◌, ◌<◌}
 use native.Mathlib.Omega.{arith}
-use Rattle.model.specs.Numbers.{problem_of}
 use Rattle.lookup.proofs.Places.{facts, few_functions}
 use Rattle.bits.proofs.Bits.{one_shl, with_members}
-use Rattle.rivals.specs.Rivals.{Members}
 use Rattle.rivals.proofs.Gathered.{no_members, one_member, all_members}
-use Rattle.model.specs.Places as places
-use Rattle.model.specs.Limits as limits
 use Rattle.rivals.proofs.members_of.Goals as goal
 
 pub loop-f-init : goal.loop-f-init

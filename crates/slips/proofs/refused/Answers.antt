@@ -1,8 +1,6 @@
 -- `refused` writes the number and the place of a refusal.
-use native.Mathlib.Omega.{arith}
 use Rattle.model.specs.Decimals.{text}
 use Rattle.model.specs.Slips.{line}
-use Rattle.decimals.proofs.Storing.{written_size}
 use Rattle.slips.proofs.Parts.{refusal_written}
 use Rattle.slips.proofs.refused.Goals as goal
 

@@ -1,8 +1,7 @@
 -- `results` writes the four lines, one behind the other.
-use native.Mathlib.Omega.{arith}
 use Rattle.model.specs.Decimals.{text}
 use Rattle.model.specs.Slips.{line, result_lines}
-use Rattle.decimals.proofs.Storing.{written_both, written_size}
+use Rattle.decimals.proofs.Storing.{written_both}
 use Rattle.slips.proofs.results.Goals as goal
 
 pub returns : goal.returns

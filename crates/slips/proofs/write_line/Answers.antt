@@ -1,6 +1,6 @@
 -- `write_line` writes the label, the number and the line's end.
 use native.Mathlib.Omega.{arith}
-use Rattle.decimals.proofs.Storing.{written_both, written_size}
+use Rattle.decimals.proofs.Storing.{written_both}
 use Rattle.slips.proofs.write_line.Goals as goal
 
 pub returns : goal.returns

@@ -1,8 +1,7 @@
-use Prim.Native.Nat.{◌≤◌}
 use mathlib.Core.Path.{sym, ◌∙◌}
 use native.Mathlib.Omega.{arith}
 use Rattle.spelling.proofs.Reading.{Reading}
-use Rattle.spelling.proofs.Laws.{Underway, answers, unit_small, group_small, goes_on, runs_out}
+use Rattle.spelling.proofs.Laws.{answers, unit_small, group_small, goes_on, runs_out}
 use Rattle.spelling.proofs.read_groups.Goals as goal
 
 pub returns-then-bytes-pos : goal.returns-then-bytes-pos

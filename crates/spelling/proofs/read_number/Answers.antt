@@ -1,6 +1,5 @@
 -- `read_number` reads a number of one byte at once, and leaves the others to `read_groups`.
 use mathlib.Core.Path.{sym}
-use native.Mathlib.Omega.{arith}
 use Rattle.spelling.proofs.Laws.{one_byte}
 use Rattle.spelling.proofs.read_number.Goals as goal
 

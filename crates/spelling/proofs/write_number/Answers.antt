@@ -1,9 +1,5 @@
-use Prim.Native.Nat.{◌+◌, ◌≤◌}
-use mathlib.Core.Path.{◌≡◌, refl, ◌∙◌}
+use mathlib.Core.Path.{refl, ◌∙◌}
 use native.Mathlib.Omega.{arith}
-use lib.ListN.{length}
-use lib.Seq.{sets}
-use Rattle.model.specs.Spelling.{number_size, number_bytes, groups}
 use Rattle.spelling.proofs.Laws.{size_pos, write_turn, write_last}
 use borrow.Author.Rules.{rules}
 use Rattle.spelling.proofs.write_number.Goals as goal

@@ -1,11 +1,9 @@
 -- `write_number` stores the bytes of the number. The invariant: the groups that are left, stored from `pos` on, give what the whole number gives.
 use Prim.Native.Nat.{◌+◌, ◌≤◌}
-use mathlib.Core.Path.{◌≡◌, refl, ◌∙◌}
-use native.Mathlib.Omega.{arith}
+use mathlib.Core.Path.{◌≡◌}
 use lib.ListN.{length}
 use lib.Seq.{sets}
 use Rattle.model.specs.Spelling.{number_size, number_bytes, groups}
-use Rattle.spelling.proofs.Laws.{size_pos, write_turn, write_last}
 use Rattle.spelling.proofs.write_number.Given as goal
 
 abbrev pub invariant-loop-left : goal.invariant-loop-left

@@ -1,9 +1,7 @@
-use Prim.Native.Nat.{◌-◌}
 use native.Mathlib.Omega.{arith}
-use Rattle.model.specs.File.{number_count}
 use Rattle.fields.proofs.Steps.{placed}
 use Rattle.edge_runs.proofs.Going.{nearer}
-use Rattle.writing.proofs.Writing.{Writing, write_first, write_all, write_room, write_later, write_next}
+use Rattle.writing.proofs.Writing.{write_first, write_all, write_room, write_later, write_next}
 use Rattle.writing.proofs.write_fields.Goals as goal
 
 both : {A B : Type 0} → A × B → record { fact_1 : A; fact_2 : B }

@@ -1,11 +1,8 @@
 -- `write_fields` writes the file of numbers that are judged good. The invariant: the bytes still to be complete the file, and what is left to
 -- judge is what was to be judged from the first field.
 use Prim.Native.Nat.{◌-◌}
-use native.Mathlib.Omega.{arith}
 use Rattle.model.specs.File.{number_count}
-use Rattle.fields.proofs.Steps.{placed}
-use Rattle.edge_runs.proofs.Going.{nearer}
-use Rattle.writing.proofs.Writing.{Writing, write_first, write_all, write_room, write_later, write_next}
+use Rattle.writing.proofs.Writing.{Writing}
 use Rattle.writing.proofs.write_fields.Given as goal
 
 abbrev pub invariant-loop-field : goal.invariant-loop-field

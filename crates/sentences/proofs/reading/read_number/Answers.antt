@@ -1,8 +1,5 @@
 -- `read_number` reads the number and what follows it.
-use Prim.Native.Nat.{◌≤◌}
 use native.Mathlib.Omega.{arith}
-use lib.ListN.{length}
-use Rattle.model.specs.Refusals.{last_refusal}
 use Rattle.sentences.specs.Remarks.{after_number}
 use Rattle.sentences.proofs.Steps.{lacks, in_range_lem, counts}
 use Rattle.sentences.proofs.reading.read_number.Goals as goal
