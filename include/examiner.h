@@ -1,5 +1,5 @@
 /*
- * The overlay examiner as a static library (target/staticlib/libexaminer.a, built by `rt staticlib examiner`), for C and C++ on
+ * The overlay examiner as a static library (target/staticlib/libexaminer.a, built by `make staticlib`), for C and C++ on
  * x86-64 Linux.
  *
  * A problem is always given as its file: edition, scratchpad size, functions, vertices, edges and loops, each number in groups of

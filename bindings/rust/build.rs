@@ -1,4 +1,4 @@
-//! Finds the static library: in the folder that EXAMINER_LIB_DIR names, or else where `rt staticlib examiner` writes it.
+//! Finds the static library: in the folder that EXAMINER_LIB_DIR names, or else where `make staticlib` puts it.
 
 use std::path::{Path, PathBuf};
 use std::{env, process};
@@ -13,7 +13,7 @@ fn main() {
     println!("cargo:rerun-if-changed={}", archive.display());
     if !archive.is_file() {
         eprintln!("no static library at {}", archive.display());
-        eprintln!("run `rt staticlib examiner` in the repository, or set EXAMINER_LIB_DIR to the folder that has libexaminer.a");
+        eprintln!("run `make staticlib` in the repository, or set EXAMINER_LIB_DIR to the folder that has libexaminer.a");
         process::exit(1);
     }
     println!("cargo:rustc-link-search=native={}", folder.display());

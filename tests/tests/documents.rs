@@ -66,6 +66,9 @@ fn in_rattle(line: &str) -> Option<Declaration<'_>> {
     (item.is_some() || line[name.len()..].starts_with(": ")).then_some((name, record.is_some()))
 }
 
+/// Stands behind a crate's name in `crates.txt` if it is a static library.
+const STATIC: &str = "staticlib";
+
 /// The crates, and where each name is declared: its file below `crates/`, and of a field its record behind that.
 struct Declared {
     crates: Vec<String>,
@@ -75,7 +78,8 @@ struct Declared {
 impl Declared {
     fn new(root: &Path) -> Declared {
         let list = fs::read_to_string(root.join("crates.txt")).expect("crates.txt");
-        let crates = list.lines().filter(|line| !line.starts_with('#')).flat_map(|line| line.split([':', ' '])).map(String::from);
+        let words = list.lines().filter(|line| !line.starts_with('#')).flat_map(|line| line.split([':', ' ']));
+        let crates = words.filter(|word| *word != STATIC).map(String::from);
         let mut declared = Declared { crates: crates.collect(), homes: BTreeMap::new() };
         declared.look(&root.join("crates"), Path::new(""));
         declared
@@ -87,6 +91,8 @@ impl Declared {
             let text = || fs::read_to_string(crates.join(&file)).expect("a text");
             let word = |part: Option<&OsStr>| part.and_then(OsStr::to_str).unwrap_or_default().to_string();
             match word(file.extension()).as_str() {
+                // what `rt` made of the crate holds its texts again, as they once were
+                _ if file.ends_with("out") => {}
                 _ if crates.join(&file).is_dir() => self.look(crates, &file),
                 "antt" => self.lines(&file, &text(), in_antt),
                 "rt" => self.lines(&file, &text(), in_rattle),
@@ -248,9 +254,10 @@ fn names_behind<'a>(text: &'a str, mark: &'a str) -> BTreeSet<&'a str> {
 #[test]
 fn an_export_is_in_the_library_the_header_and_the_wrapper() {
     let text = |path: &str| fs::read_to_string(root().join(path)).expect(path);
-    let (source, header, wrapper) = (text("crates/examiner/src/lib.rt"), text("include/examiner.h"), text("bindings/rust/src/raw.rs"));
+    let (source, header, wrapper) = (text("crates/examiner_c/src/lib.rt"), text("include/examiner.h"), text("bindings/rust/src/raw.rs"));
     let exports = names_behind(&source, "pub extern \"C\" fn ");
     assert!(exports.len() >= 8, "only {exports:?}");
+    assert_eq!(names_behind(&text("crates/examiner/src/lib.rt"), "\npub fn "), exports, "in crates/examiner/src/lib.rt");
     assert_eq!(names_behind(&header, "\nuint32_t "), exports, "in include/examiner.h");
     assert_eq!(names_behind(&wrapper, "pub fn "), exports, "in bindings/rust/src/raw.rs");
 }
@@ -287,8 +294,9 @@ fn the_library_the_header_and_the_wrapper_have_the_same_limits() {
 
 /// The crates that a crate stands on, itself first, with the libraries of the kit that each uses.
 fn reached<'a>(list: &'a str, from: &'a str) -> Vec<(&'a str, Vec<&'a str>)> {
+    let name = |words: &'a str| words.split(' ').next().unwrap_or_default();
     let uses: BTreeMap<&str, Vec<&str>> =
-        list.lines().filter_map(|line| line.split_once(':')).map(|(name, used)| (name, used.split_whitespace().collect())).collect();
+        list.lines().filter_map(|line| line.split_once(':')).map(|(words, used)| (name(words), used.split_whitespace().collect())).collect();
     let mut names = vec![from];
     let mut at = 0;
     while at < names.len() {
@@ -302,20 +310,38 @@ fn reached<'a>(list: &'a str, from: &'a str) -> Vec<(&'a str, Vec<&'a str>)> {
     names.into_iter().map(|name| (name, uses[name].iter().copied().filter(|used| !uses.contains_key(used)).collect())).collect()
 }
 
+/// What gives a handle by which a program can write: `main` is handed it, and each function that passes it on names it.
+const HANDLES: [&str; 6] = ["HostRuntime", "Runtime", "Print", "Files", "Stdout", "Stderr"];
+
+/// What stands in each call that can write, and in some that cannot.
+const WRITES: [&str; 12] =
+    [".write", "write!", "writeln!", ".print", "print!", "println!", "writer(", "stdout", "stderr", "create", "OpenOptions", "fs::"];
+
+/// What has such a mark and writes nowhere, or to standard error.
+const PASSED: [&str; 3] = ["eprint!", "eprintln!", "fs::open("];
+
 /// A contract cannot say what a program writes: PROOF-MAP rests on it that `print` of `sheet`, which requires the slip, has the only call on standard output.
 #[test]
 fn one_call_writes_to_standard_output() {
     let list = fs::read_to_string(root().join("crates.txt")).expect("crates.txt");
     let (mut writers, mut writes) = (Vec::new(), Vec::new());
-    for (name, _) in reached(&list, "marksheet").into_iter().filter(|(_, libraries)| !libraries.is_empty()) {
-        writers.push(name);
+    for (name, libraries) in reached(&list, "marksheet") {
+        assert!(libraries.is_empty(), "{name} uses libraries of the kit, which may write: {libraries:?}");
         for entry in fs::read_dir(root().join("crates").join(name).join("src")).expect("its sources") {
             let text = fs::read_to_string(entry.expect("a source").path()).expect("a text");
-            let calls =
-                text.lines().map(str::trim).filter(|line| ["io::write", "io::print", "libc::write"].iter().any(|call| line.contains(call)));
-            writes.extend(calls.filter(|line| !line.contains("STDERR_FILENO")).map(String::from));
+            if !text.split(|c: char| !c.is_alphanumeric()).any(|word| HANDLES.contains(&word)) {
+                continue;
+            }
+            writers.push(name);
+            let code = text.lines().map(str::trim).filter(|line| !["//", "use "].iter().any(|start| line.starts_with(start)));
+            let calls = code.filter(|line| {
+                let line = PASSED.iter().fold(line.to_string(), |line, passed| line.replace(passed, ""));
+                WRITES.iter().any(|mark| line.contains(mark))
+            });
+            writes.extend(calls.map(String::from));
         }
     }
-    assert_eq!(writers, ["marksheet", "sheet"], "crates of the program that use the kit's libraries");
-    assert_eq!(writes, ["if !io::write_all(STDOUT_FILENO, &slip[..size]) {"], "what writes elsewhere than to standard error");
+    writers.dedup();
+    assert_eq!(writers, ["marksheet", "sheet"], "crates of the program that are handed what can write");
+    assert_eq!(writes, ["let Err(error) = rt.write_all(&slip[..size]) else {"], "what writes elsewhere than to standard error");
 }

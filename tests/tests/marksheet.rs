@@ -1,6 +1,6 @@
 //! The program marksheet as its users meet it: a problem file on standard input, `layout.bin` in the folder that it is started in.
 //!
-//! MARKSHEET in the environment names the program; else it is where `rt check marksheet` puts it.
+//! MARKSHEET in the environment names the program; else it is where `make program` puts it.
 
 use std::fs::{self, File};
 use std::io::{self, Write};
@@ -41,7 +41,7 @@ impl Desk {
     fn start(&self, input: Stdio) -> process::Child {
         let program = env::var_os("MARKSHEET")
             .map_or_else(|| PathBuf::from(env!("CARGO_MANIFEST_DIR")).join("../target/bin/marksheet"), PathBuf::from);
-        let program = program.canonicalize().expect("the program: `rt check marksheet` builds it");
+        let program = program.canonicalize().expect("the program: `make program` builds it");
         Command::new(program)
             .current_dir(&self.0)
             .stdin(input)

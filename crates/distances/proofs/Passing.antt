@@ -38,16 +38,16 @@ module _ {p : Problem} {f g w t number : ℕ} where
   pass_less pass part = record { still = pass.still; lower = pass.lower; passed = λ u s is. pass.passed u s (part u s is) }
 
   -- One state.
-  pub pass_one : {v first : ℕ} {d queue : List ℕ} {end : ℕ} {d' queue' : List ℕ} {end' : ℕ} → Turning p f g w t number v first d queue end →
-      {u s : ℕ} → u < most_vertices → EdgeOf p u w → s < 2 → Entered (eqb (turn p f g s u) t) (2 * u + s) number d queue end d' queue' end' →
+  pub pass_one : {v first : ℕ} {d queue : List ℕ} {end : ℕ} {u s : ℕ} {d' queue' : List ℕ} {end' : ℕ} → Turning p f g w t number v first d queue end →
+      u < most_vertices → EdgeOf p u w → s < 2 → Entered (eqb (turn p f g s u) t) (2 * u + s) number d queue end d' queue' end' →
       Passing p f g w t number (InPhase p f g t u s) d queue end d' queue' end'
-  pass_one now {u} {s} there edge low (kept has) = record {
+  pass_one {u = u} {s = s} now there edge low (kept has) = record {
     still = λ v first now. now;
     lower = λ j. omega arith;
     passed = λ x r (e, q, turns).
         rw (e, q) (had_low now (2 * u + s) (omega arith) (has (eq-eqb (turn p f g s u) t (rw (e, q) at turns))));
   }
-  pass_one now {u} {s} there edge low (new leads none) =
+  pass_one {u = u} {s = s} now there edge low (new leads none) =
       let before : Before p f g w t u s = record { edge = edge; low = low; turns = eqb-true (turn p f g s u) t leads } in
       record {
         still = λ v first now. entered now there before none;

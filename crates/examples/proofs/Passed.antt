@@ -24,6 +24,7 @@ module _ {A : Type 0} (test : A → Bool) where
   unfolding all
   all_at (y ∷ xs) e (Memᴰ.head q) = rw q (and_left (test y) _ e)
   all_at (y ∷ xs) e (Memᴰ.tail m) = all_at xs (and_right (test y) _ e) m
+  all_at [] e x4 = elim x4 [ ]
 
   pub any_at : (xs : List A) → any test xs ≡ true → (x : A) × Memᴰ x xs × (test x ≡ true)
   unfolding any

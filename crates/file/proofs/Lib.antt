@@ -1,3 +1,2 @@
 pub mod NumbersRead
 pub mod Stages
-pub mod Answering

@@ -112,10 +112,8 @@ fn prices(out: &mut impl Write, l: &Numbers, layouts: &[u8], walk: &[u32]) -> io
     requires { Checked l.now }
 {
     let width = lookup::function_count(l);
-    let mut at: usize = 0;
-    while width <= layouts.len() - at {
-        priced(out, l, &layouts[at..at + width], walk)?;
-        at += width;
+    for layout in layouts.chunks_exact(width) {
+        priced(out, l, layout, walk)?;
     }
     Ok(())
 }

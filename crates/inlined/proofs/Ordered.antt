@@ -28,6 +28,7 @@ module _ {A B : Type 0} (parts : A → List B) where
   unfolding flat_map
   part_in (x ∷ s) a b (Memᴰ.head e) n = Memᴰ.append_left (flat_map parts s) (subst (λ (y : A). Memᴰ b (parts y)) e n)
   part_in (x ∷ s) a b (Memᴰ.tail m) n = Memᴰ.append_right (parts x) (part_in s a b m n)
+  part_in [] a b x'' n = elim x'' [ ]
 
 -- Each item stands before all later ones.
 module _ {A : Type 0} (Before : A → A → Type 0) where

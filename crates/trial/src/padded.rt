@@ -23,15 +23,13 @@ fn padded_byte(numbers: &[u8], at: usize) -> u8 {
 
 // Pads one-byte numbers, as many as there is room for, and answers how many bytes they take.
 fn pad(numbers: &[u8], out: &mut [u8]) -> usize {
-    let mut at: usize = 0;
-    while at < out.len() {
+    for at in 0..out.len() {
         if numbers.len() <= at / FIVE {
             return at;
         }
         out[at] = padded_byte(numbers, at);
-        at += 1;
     }
-    at
+    out.len()
 }
 
 // Pads a file of one-byte numbers, writes its problem into the room, and shows the refusal, or the bytes read and written and whether they are the file again.

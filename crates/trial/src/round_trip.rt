@@ -13,14 +13,7 @@ pub const ROOM: usize = 4096;
 fn same_numbers(a: Numbers, b: Numbers) -> bool
     ensures { (result ≡ true → a ≡ b) × (a ≡ b → result ≡ true) }
 {
-    let mut i: usize = 0;
-    while i < places::END {
-        if a[i] != b[i] {
-            return false;
-        }
-        i += 1;
-    }
-    true
+    a == b
 }
 
 // The bytes before a position, as far as there are any.

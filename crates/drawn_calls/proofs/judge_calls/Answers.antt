@@ -5,14 +5,11 @@ use Rattle.model.specs.Places as places
 use Rattle.drawn_calls.proofs.InPlace.{calls_judged}
 use Rattle.drawn_calls.proofs.judge_calls.Goals as goal
 
-few : (called : tie.After-call-words) → called.before.function_count_lem.result ≤ places.most_functions
-few called = omega (arith, called.before.function_count_lem.ensures, called.before.before.requires.functions)
-
 pub close-requires : goal.close-requires
-close-requires c = record { fact_1 = few c; fact_2 = c.call_words-words.ensures.long }
+close-requires c = record { fact_1 = (let few : c.function_count-count.result ≤ places.most_functions = omega (arith, c.function_count-count.ensures, c.requires.functions) in few); fact_2 = c.call_words-words.ensures.long }
 
 pub judge_words-requires : goal.judge_words-requires
-judge_words-requires c = few c
+judge_words-requires c = (let few : c.function_count-count.result ≤ places.most_functions = omega (arith, c.function_count-count.ensures, c.requires.functions) in few)
 
 pub returns : goal.returns
 returns c =

@@ -30,13 +30,13 @@ returns c =
     let i = c.eviction_checked-evicted in
     let a = c.args in
     let walk = a.walk.now in
-    let after = i.last.1.1.1.0 in
+    let after = i.new.walk in
     let o = eviction_outcome i.result in
     record {
       outcome = o;
       says =
           right_on _ _ _ c.read_numbers-verdict.ensures (λ p. Evicted p a.layout.now a.vertex walk after o)
-          (λ f. (o ≡ refusal_outcome f) × (after ≡ walk)) c.in-Accepted.is (i.result, i.ensures.0, refl);
+          (λ f. (o ≡ refusal_outcome f) × (after ≡ walk)) c.in-Accepted.is (i.result, i.ensures.eviction_says, refl);
       status_is = c.tell_evicted.ensures.fact_1;
       answer_is = c.tell_evicted.ensures.fact_2;
     }

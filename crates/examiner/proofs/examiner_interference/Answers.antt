@@ -27,7 +27,7 @@ pub returns : goal.returns
 returns c =
     let i = c.interference_checked-filled in
     let words = c.args.words.now in
-    let after = i.last.1.0 in
+    let after = i.new.words in
     let o = interference_outcome i.result in
     record {
       outcome = o;

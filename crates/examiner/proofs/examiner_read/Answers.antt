@@ -10,7 +10,8 @@ refusal_in-requires c = (_, c.in_default.is)
 
 pub returns-in_default : goal.returns-in_default
 returns-in_default c =
-    let t = told _ _ _ _ _
+    let t =
+    told _ _ _ _ _
     (stands _ _ _ c.read_numbers-verdict.ensures (λ p. Results (counts p)) refusal_outcome _ c.refusal_in.ensures)
     c.refuse.ensures.fact_1
     c.refuse.ensures.fact_2 in
@@ -18,7 +19,8 @@ returns-in_default c =
 
 pub returns : goal.returns
 returns c =
-    let t = told _ _ _ _ _
+    let t =
+    told _ _ _ _ _
     (goes_on _ _ _ c.read_numbers-verdict.ensures (λ p. Results (counts p)) refusal_outcome c.in-Accepted.is)
     c.tell_counts.ensures.value
     c.tell_counts.ensures.answer_after in

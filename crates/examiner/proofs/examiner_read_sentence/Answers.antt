@@ -7,7 +7,7 @@ returns c =
     let r = c.read_sentence in
     record {
       outcome = sentence_outcome r.result;
-      says = r.ensures.1;
+      says = r.ensures.understood;
       status_is = c.tell_sentence.ensures.fact_1;
       answer_is = c.tell_sentence.ensures.fact_2;
     }

@@ -29,5 +29,5 @@ returns-in_default c =
     let a = c.args in
     let t =
     unsaid_told (λ A. on_reason a.reason a.function) a.text.now a.answer.now
-    (λ A said unknown. no_reason a.reason a.function said unknown c.in_default.rest.0.0.1 c.in_default.rest.0.1 c.in_default.rest.1) (c.refuse.ensures.fact_1, c.refuse.ensures.fact_2) in
+    (λ A said unknown. no_reason a.reason a.function said unknown c.in_default.in_default-own.rest.0.0.1 c.in_default.in_default-own.rest.0.1 c.in_default.in_default-own.rest.1) (c.refuse.ensures.fact_1, c.refuse.ensures.fact_2) in
     record { value = t.0; answer_after = t.1.0; text_after = t.1.1 }

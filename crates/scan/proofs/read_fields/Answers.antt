@@ -6,6 +6,7 @@ use Rattle.model.specs.File.{in_range}
 use Rattle.fields.proofs.Steps.{placed, ranged_later}
 use Rattle.edge_runs.proofs.Going.{past_row, past_nearer}
 use Rattle.scan.proofs.Reading.{read_first, read_all, read_past, read_further, read_refused_lem, read_too_far, read_unordered, read_next}
+use borrow.Enum.Refused.{opened}
 use Rattle.scan.proofs.read_fields.Goals as goal
 
 pub loop-field-init : goal.loop-field-init
@@ -25,7 +26,7 @@ past_pairs-field-requires c = (c.read_run-run.ensures.few, (placed c.read_run-ru
 
 pub returns-in_default : goal.returns-in_default
 returns-in_default c =
-    read_refused_lem (read_past (read_further c.loop-field.invariant c.loop-field-test.true c.read_functions-far.ensures) c.read_functions-far.ensures.going c.read_run-run.ensures c.past_pairs-field.ensures) (past_row (c.read_functions-far.result).field (c.read_run-run.result).items c.past_pairs-field.ensures c.read_functions-far.ensures.going) _ c.read_field-number.ensures c.in_default.keys2 c.misread_at.ensures
+    read_refused_lem (read_past (read_further c.loop-field.invariant c.loop-field-test.true c.read_functions-far.ensures) c.read_functions-far.ensures.going c.read_run-run.ensures c.past_pairs-field.ensures) (past_row (c.read_functions-far.result).field (c.read_run-run.result).items c.past_pairs-field.ensures c.read_functions-far.ensures.going) _ c.read_field-number.ensures (opened c.in_default.in_default-own.keys2) c.misread_at.ensures
 
 pub in_range-requires : goal.in_range-requires
 in_range-requires c =
