@@ -1,5 +1,4 @@
 -- `prices` cuts layouts that list at least one function.
-use mathlib.Core.Path.{◌≡◌}
 use native.Mathlib.Omega.{arith}
 use Rattle.lookup.proofs.Places.{facts, some_function}
 use Rattle.inline_cases.proofs.show.prices.Goals as goal
