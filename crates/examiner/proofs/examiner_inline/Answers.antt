@@ -1,6 +1,6 @@
 -- `examiner_inline` meets its contract: Inline's refusal stands, or Write's answer on the one problem is told.
 use lib.ListN.{length}
-use mathlib.Core.Path.{ap, ◌∙◌}
+use mathlib.Core.Path.{ap}
 use Rattle.model.specs.Operations.{written_buffer}
 use Rattle.model.specs.Outcomes.{refusal_outcome, write_outcome, write_says}
 use Rattle.outcomes.proofs.Told.{told_with}
