@@ -2,7 +2,7 @@
 // bound: what Interference, Bound and Run give. M1 is part of Table I of document 003, which is printed whole.
 #![tactic(auto)]
 
-mod sets;
+mod set_marks;
 mod show;
 
 use model::{Problem, limits};
@@ -162,7 +162,7 @@ fn splitting(out: &mut impl Write) -> io::Result<()> {
 
 fn main(rt: HostRuntime) -> io::Result<()> {
     let mut out = io::writer(&rt);
-    sets::table_one(&mut out)?;
+    set_marks::table_one(&mut out)?;
     marks_of_p(&mut out)?;
     mark_of_q(&mut out)?;
     marks_of_r(&mut out)?;

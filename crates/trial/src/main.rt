@@ -1,7 +1,7 @@
 // Runs the library on small files and problems, and prints for each what was run and what came out.
 #![tactic(auto)]
 
-mod fields;
+mod field_cases;
 mod files;
 mod padded;
 mod round_trip;
@@ -14,7 +14,7 @@ fn main(rt: HostRuntime) -> io::Result<()> {
     files::refused_by_fields(&mut out)?;
     files::refused_by_graph(&mut out)?;
     files::m10(&mut out)?;
-    fields::m10(&mut out)?;
+    field_cases::m10(&mut out)?;
     round_trip::run(
         &mut out,
         b"P",
