@@ -26,7 +26,7 @@ returns-then-edges-gt-MOST_EDGES c =
 
 pub put_loops-loops-requires : goal.put_loops-loops-requires
 put_loops-loops-requires c =
-    made_rowed _ _ _ c.requires.fact_1 c.rows_of-made.ensures c.if-count-gt-MOST_VERTICES.false _ c.fill_places.ensures
+    let few = c.if-count-gt-MOST_VERTICES.false in made_rowed _ _ _ c.requires.fact_1 c.rows_of-made.ensures few _ c.fill_places.ensures
 
 pub returns-then-loops-gt-MOST_LOOPS : goal.returns-then-loops-gt-MOST_LOOPS
 returns-then-loops-gt-MOST_LOOPS c =
