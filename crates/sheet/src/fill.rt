@@ -1,5 +1,5 @@
 // Filling a buffer from an open input or from a file by name.
-ghost use Rattle.std.specs.Prelude.{IfOk};
+ghost use Rattle.std.specs.Prelude.{◌≡◌, length, IfOk};
 ghost use Rattle.sheet.specs.Fronts.{Fills};
 
 use crate::show;
@@ -21,7 +21,8 @@ pub fn from_input(
     name: &str,
     buf: &mut [u8],
 ) -> io::Result<BytesRead>
-    ensures { IfOk result (λ filled. Fills buf.old buf.new filled) }
+    ensures filled { IfOk result (λ filled. Fills buf.old buf.new filled) }
+    ensures room { length buf.new ≡ length buf.old }
 {
     let mut done: usize = 0;
     while done < buf.len() {
@@ -43,7 +44,8 @@ pub fn from_file(
     path: &str,
     buf: &mut [u8],
 ) -> io::Result<BytesRead>
-    ensures { IfOk result (λ filled. Fills buf.old buf.new filled) }
+    ensures filled { IfOk result (λ filled. Fills buf.old buf.new filled) }
+    ensures room { length buf.new ≡ length buf.old }
 {
     match fs::open(rt, path) {
         Ok(mut file) => from_input(rt, &mut file, path, buf),
