@@ -1,15 +1,14 @@
 -- Bound's contract decides its answer: no two answers meet it for one problem and one layout, and a bound is the answer just where the layout is accepted.
 use Prim.Native.Nat.{ℕ, ◌+◌, ◌≤◌}
+use Rattle.std.specs.Prelude.{Err, Ok, Result}
+use Rattle.model.specs.declared.Refusal.{Refusal}
 use mathlib.Core.Path.{◌≡◌, refl, sym, ap, ◌∙◌}
 use mathlib.Core.List.{List, ◌∷◌}
 use mathlib.Core.Bool.{Bool, true}
 use mathlib.Core.Logic.{◌⊎◌, inl, inr}
 use native.Mathlib.Omega.{arith}
-use Rattle.model.specs.declared.Verdict.TheVariants as verdict
 use Rattle.model.specs.declared.Problem.{Problem}
 use Rattle.model.specs.declared.Bound.{Bound}
-use Rattle.model.specs.declared.BoundAnswer.{BoundAnswer}
-use Rattle.model.specs.declared.BoundAnswer.TheVariants.{Bounded, Refused}
 use Rattle.model.specs.Costs.{how_many}
 use Rattle.model.specs.Walks.{last_vertex, Lawful, Greatest, Smaller}
 use Rattle.model.specs.Charges.{Told, visit_charge, first_loads, second_total, charges}
@@ -95,22 +94,22 @@ module _ (p : Problem) (layout : List ℕ) where
       at (inl first) = let (h, lawful, passes) = over in absurd (omega (arith, a.greatest_is_lem.above h lawful, a.within_limit))
       at (inr above) = let (h, lawful, passes) = second_over in absurd (omega (arith, above h lawful, a.within_limit))
 
-  pub bound_decided : (r s : BoundAnswer) → BoundSays p layout r → BoundSays p layout s → r ≡ s
-  bound_decided (Bounded x) (Bounded y) a b = ap Bounded (bounded_once x y a.1 b.1)
-  bound_decided (Bounded x) (Refused g) a (inl b) = refused_not_accepted (sym b ∙ a.0)
-  bound_decided (Bounded x) (Refused g) a (inr b) = bounded_or_past x a.1 b.2
-  bound_decided (Refused f) (Bounded y) (inl a) b = refused_not_accepted (sym a ∙ b.0)
-  bound_decided (Refused f) (Bounded y) (inr a) b = bounded_or_past y b.1 a.2
-  bound_decided (Refused f) (Refused g) (inl a) (inl b) = let same : verdict.Refused f ≡ verdict.Refused g = sym a ∙ b in let is : f ≡ g = cc in ap Refused is
-  bound_decided (Refused f) (Refused g) (inl a) (inr b) = refused_not_accepted (sym a ∙ b.0)
-  bound_decided (Refused f) (Refused g) (inr a) (inl b) = refused_not_accepted (sym b ∙ a.0)
-  bound_decided (Refused f) (Refused g) (inr a) (inr b) = ap Refused (a.1 ∙ sym b.1)
+  pub bound_decided : (r s : Result Bound Refusal) → BoundSays p layout r → BoundSays p layout s → r ≡ s
+  bound_decided (Ok x) (Ok y) a b = ap Ok (bounded_once x y a.1 b.1)
+  bound_decided (Ok x) (Err g) a (inl b) = refused_not_accepted (sym b ∙ a.0)
+  bound_decided (Ok x) (Err g) a (inr b) = bounded_or_past x a.1 b.2
+  bound_decided (Err f) (Ok y) (inl a) b = refused_not_accepted (sym a ∙ b.0)
+  bound_decided (Err f) (Ok y) (inr a) b = bounded_or_past y b.1 a.2
+  bound_decided (Err f) (Err g) (inl a) (inl b) = let same : Err f ≡ Err g = sym a ∙ b in let is : f ≡ g = cc in ap Err is
+  bound_decided (Err f) (Err g) (inl a) (inr b) = refused_not_accepted (sym a ∙ b.0)
+  bound_decided (Err f) (Err g) (inr a) (inl b) = refused_not_accepted (sym b ∙ a.0)
+  bound_decided (Err f) (Err g) (inr a) (inr b) = ap Err (a.1 ∙ sym b.1)
 
   -- A bound is given only for a layout that is accepted with the problem, and for each that is.
-  pub bounded_accepted : (b : Bound) → BoundSays p layout (Bounded b) → AcceptedWith p layout
+  pub bounded_accepted : (b : Bound) → BoundSays p layout (Ok b) → AcceptedWith p layout
   bounded_accepted b says = (says.0, bounded_or_past b says.1)
 
-  pub accepted_bounded : (a : BoundAnswer) → BoundSays p layout a → AcceptedWith p layout → (b : Bound) × (a ≡ Bounded b)
-  accepted_bounded (Bounded b) says accepted = (b, refl)
-  accepted_bounded (Refused f) (inl refused) accepted = refused_not_accepted (sym refused ∙ accepted.0)
-  accepted_bounded (Refused f) (inr says) accepted = absurd (accepted.1 says.2)
+  pub accepted_bounded : (a : Result Bound Refusal) → BoundSays p layout a → AcceptedWith p layout → (b : Bound) × (a ≡ Ok b)
+  accepted_bounded (Ok b) says accepted = (b, refl)
+  accepted_bounded (Err f) (inl refused) accepted = refused_not_accepted (sym refused ∙ accepted.0)
+  accepted_bounded (Err f) (inr says) accepted = absurd (accepted.1 says.2)

@@ -1,11 +1,11 @@
 -- A visit's price by the flags that Bound fills, own cost plus flags times check cost and load cost, is the visit charge.
 use Prim.Native.Nat.{ℕ, ◌<◌}
+use Rattle.std.specs.Prelude.{Ok}
 use mathlib.Core.Path.{◌≡◌, refl, sym}
 use mathlib.Core.List.{List}
 use mathlib.Core.Bool.{Bool}
 use borrow.Author.Tests.{lt-ltb}
 use Rattle.model.specs.declared.Bound.{Bound}
-use Rattle.model.specs.declared.BoundAnswer.TheVariants.{Bounded}
 use Rattle.model.specs.Numbers.{problem_of}
 use Rattle.model.specs.Operations.{Checked}
 use Rattle.model.specs.Layouts.{filled_in}
@@ -38,7 +38,7 @@ module _ {l rivals held : List ℕ} (checked : Checked l) (is_held_lem : HeldTab
   pub bound_prices :
       {layout entered flags : List ℕ} {tally : ℕ} {b : Bound} → RivalTable (problem_of l) (filled_in layout (problem_of l).function_count) rivals →
       EnteredTold (problem_of l) entered → Tallied (problem_of l).vertex_count (contested_by (problem_of l) rivals held) flags tally →
-      (says : BoundSays (problem_of l) layout (Bounded b)) →
+      (says : BoundSays (problem_of l) layout (Ok b)) →
       (v : ℕ) → v < (problem_of l).vertex_count → price (problem_of l) entered flags v ≡ visit_charge (problem_of l) says.1.contested v
   unfolding visit_charge
   bound_prices {layout} {entered} {flags} is_rivals told marked says v below =

@@ -1,11 +1,11 @@
 -- What pricing a layout that fits says: the bound, or 14.
-use Rattle.std.specs.Prelude.{ℕ, ◌≡◌, List}
+use Rattle.std.specs.Prelude.{ℕ, ◌≡◌, List, Err, Ok, Result}
+use Rattle.model.specs.declared.Refusal.{Refusal}
+use Rattle.model.specs.declared.Bound.{Bound}
 use Rattle.model.specs.declared.Refusal.TheVariants.{BoundTooLarge}
 use Rattle.model.specs.declared.Problem.{Problem}
-use Rattle.model.specs.declared.BoundAnswer.{BoundAnswer}
-use Rattle.model.specs.declared.BoundAnswer.TheVariants.{Bounded, Refused}
 use Rattle.model.specs.Results.{BoundIs, PastTheLimit}
 
-abbrev pub Priced : Problem → List ℕ → BoundAnswer → Type 0
-Priced p layout (Bounded b) = BoundIs p layout b
-Priced p layout (Refused f) = (f ≡ BoundTooLarge 0) × PastTheLimit p layout
+abbrev pub Priced : Problem → List ℕ → Result Bound Refusal → Type 0
+Priced p layout (Ok b) = BoundIs p layout b
+Priced p layout (Err f) = (f ≡ BoundTooLarge 0) × PastTheLimit p layout

@@ -10,11 +10,10 @@ ghost use Rattle.model.specs.Outcomes.{bound_outcome, IsBounded};
 ghost use Rattle.regions.specs.Regions.{KnownRegions};
 ghost use Rattle.bound.specs.Priced.{Priced};
 
-use layout::LayoutAnswer;
-use model::{BoundAnswer, Bytes, Numbers, Problem, Verdict, places};
+use model::{Bound, Bytes, Numbers, Problem, Refusal, places};
 
 // What a layout that fits costs: the part of Bound after the checks.
-pub fn price(l: &Numbers, layout: &[u8], need: Bytes) -> BoundAnswer
+pub fn price(l: &Numbers, layout: &[u8], need: Bytes) -> Result<Bound, Refusal>
     requires fact_1 { Checked l.now }
     requires fact_2 { need.0 ≡ need_of (problem_of l.now) layout.now }
     requires fact_3 { KnownRegions (problem_of l.now) layout.now }
@@ -41,29 +40,23 @@ pub fn price(l: &Numbers, layout: &[u8], need: Bytes) -> BoundAnswer
 }
 
 // Bound on checked numbers: the layout, and its price.
-pub fn bound_checked(l: &Numbers, layout: &[u8]) -> BoundAnswer
+pub fn bound_checked(l: &Numbers, layout: &[u8]) -> Result<Bound, Refusal>
     requires { Checked l.now }
     ensures { BoundSays (problem_of l.now) layout.now result }
 {
     let count = lookup::function_count(l);
     let regions = filled::filled_in(layout, count);
     let whole: &[u8] = &regions[..count];
-    let judged = layout::judge(l, layout, whole);
-    let LayoutAnswer::Fits(need) = judged else {
-        return BoundAnswer::Refused(model::refusal_in(layout::verdict_of(judged)));
-    };
+    let need = layout::judge(l, layout, whole)?;
     price(l, whole, need)
 }
 
 // **Bound.** Bytes needed, contested vertices, the bound and what it has above the greatest visit charges, or the first refusal that applies.
-pub fn bound(problem: Problem, layout: &[u8]) -> BoundAnswer
+pub fn bound(problem: Problem, layout: &[u8]) -> Result<Bound, Refusal>
     ensures bound_says { BoundSays problem layout.now result }
     ensures bounded { IsBounded problem layout.now (bound_outcome result) }
 {
     let numbers = numbers::numbers_of(problem);
-    let verdict = checks::judge(&numbers);
-    let Verdict::Accepted = verdict else {
-        return BoundAnswer::Refused(model::refusal_in(verdict));
-    };
+    checks::judge(&numbers)?;
     bound_checked(&numbers, layout)
 }

@@ -3,7 +3,7 @@ use Prim.Native.Nat.{ℕ, zero, suc, ◌<◌}
 use mathlib.Core.Path.{◌≡◌, refl, sym, ap, subst}
 use mathlib.Core.List.{List}
 use mathlib.Core.Bool.{Bool, true, ◌&&◌}
-use mathlib.Core.Option.{Option, some, none}
+use Rattle.std.specs.Prelude.{Option, Some, None}
 use mathlib.Core.Logic.{◌⊎◌, inl, inr, ◌↔◌}
 use native.Mathlib.Omega.{arith}
 use borrow.Author.Tests.{eqb-true, eq-eqb}
@@ -86,19 +86,19 @@ module _ (calls : ℕ → ℕ → Bool) where
       go (inl a) r = r f g a
       go (inr b) r = chained (r f k b.0) (r k g b.1)
 
-the_callee : (o : Option ℕ) (g : ℕ) → calls_the o g ≡ true → o ≡ some g
-the_callee none g e = true_not_false (sym e)
-the_callee (some h) g e = ap some (eqb-true h g e)
+the_callee : (o : Option ℕ) (g : ℕ) → calls_the o g ≡ true → o ≡ Some g
+the_callee None g e = true_not_false (sym e)
+the_callee (Some h) g e = ap Some (eqb-true h g e)
 
 module _ (d : List ℕ) where
   -- A call is made at a vertex.
-  pub call_made : (f g : ℕ) → inlined.calls d f g ≡ true → (v : ℕ) × (v < drawn_count d f) × (called_by d f v ≡ some g)
+  pub call_made : (f g : ℕ) → inlined.calls d f g ≡ true → (v : ℕ) × (v < drawn_count d f) × (called_by d f v ≡ Some g)
   unfolding inlined.calls
   call_made f g e =
       let (v, low, made) = some_below (drawn_count d f) (λ v. calls_the (called_by d f v) g) e in
       (v, low, the_callee (called_by d f v) g made)
 
-  pub call_found : (f v g : ℕ) → v < drawn_count d f → called_by d f v ≡ some g → inlined.calls d f g ≡ true
+  pub call_found : (f v g : ℕ) → v < drawn_count d f → called_by d f v ≡ Some g → inlined.calls d f g ≡ true
   unfolding inlined.calls
   call_found f v g low e = exists_at (drawn_count d f) (λ w. calls_the (called_by d f w) g) v low (rw e (eq-eqb g g refl))
 

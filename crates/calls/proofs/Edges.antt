@@ -3,7 +3,7 @@
 use Prim.Native.Nat.{ℕ, suc, ◌+◌, ◌<◌}
 use mathlib.Core.Path.{◌≡◌, refl, sym, subst, ◌∙◌}
 use mathlib.Core.List.{List}
-use mathlib.Core.Option.{Option, some, none}
+use Rattle.std.specs.Prelude.{Option, Some, None}
 use mathlib.Core.Logic.{◌⊎◌, inl, inr}
 use native.Mathlib.Omega.{arith}
 use Rattle.model.specs.Walks.{EdgeOf}
@@ -42,8 +42,8 @@ module _ (d : List ℕ) (size : ℕ → ℕ) (D : Drawn d size) where
   exit f u c fits l = by_call (called_by d f u) refl
     where
       by_call : (o : Option ℕ) → called_by d f u ≡ o → Exit d size f u c
-      by_call none e = record { source = spot f u c; valid = (l, fits); leaves = λ w x. go e x; counted = omega (arith, pos_none d size f u e) }
-      by_call (some g) e =
+      by_call None e = record { source = spot f u c; valid = (l, fits); leaves = λ w x. go e x; counted = omega (arith, pos_none d size f u e) }
+      by_call (Some g) e =
           let k = D.known f u g (fits_known d size D f c fits) l e in
           let v = last_of d size D g k in
           record {
@@ -99,7 +99,7 @@ module _ (d : List ℕ) (size : ℕ → ℕ) (D : Drawn d size) where
       rw (leaves, arrives) at y
 
   pub call_joined :
-      (f v g : ℕ) (c : Callers) → Valid d (spot f v c) → called_by d f v ≡ some g →
+      (f v g : ℕ) (c : Callers) → Valid d (spot f v c) → called_by d f v ≡ Some g →
       Joined d (size 0) (number d size (spot f v c)) (suc (number d size (spot f v c)))
   unfolding number base pos
   call_joined f v g c p e =
@@ -107,14 +107,14 @@ module _ (d : List ℕ) (size : ℕ → ℕ) (D : Drawn d size) where
       subst (Joined d (size 0) (base d size c + pos d size f v)) next (joined d size D (spot f v c) (spot g 0 (from f v c)) p (call e))
 
   -- A call vertex leads nowhere else.
-  only : (s t : State) (g : ℕ) → Step d s t → Valid d s → callee_at d s ≡ some g → number d size t ≡ suc (number d size s)
+  only : (s t : State) (g : ℕ) → Step d s t → Valid d s → callee_at d s ≡ Some g → number d size t ≡ suc (number d size s)
   unfolding number base pos
   only s t g (call {f} {v} {g = h} {c} e) p q = omega arith
   only s t g (go {f} {v} {w} {c} e x) p q = calls_not q e
   only s t g (back {g = h} {v} {f} {u} {w} {c} e x) p q = calls_not q (D.quiet h v (fits_known d size D h (from f u c) p.1) e)
 
   pub call_only :
-      (f v g j : ℕ) (c : Callers) → Valid d (spot f v c) → called_by d f v ≡ some g → Joined d (size 0) (number d size (spot f v c)) j →
+      (f v g j : ℕ) (c : Callers) → Valid d (spot f v c) → called_by d f v ≡ Some g → Joined d (size 0) (number d size (spot f v c)) j →
       j ≡ suc (number d size (spot f v c))
   call_only f v g j c p e x =
       let t = spotted d size D j x.1 in

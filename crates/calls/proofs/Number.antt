@@ -2,7 +2,7 @@
 use Prim.Native.Nat.{ℕ, zero, suc, ◌+◌, ◌-◌, ◌≤◌, ◌<◌}
 use mathlib.Core.Path.{◌≡◌, refl, sym, ap, ◌∙◌}
 use mathlib.Core.List.{List}
-use mathlib.Core.Option.{Option, some, none}
+use Rattle.std.specs.Prelude.{Option, Some, None}
 use mathlib.Core.Logic.{◌⊎◌, inl, inr}
 use native.Mathlib.Omega.{arith}
 use borrow.Author.Tests.{le-leb, lt-leb}
@@ -11,19 +11,19 @@ use Rattle.model.proofs.Cases.{by_order}
 use Rattle.calls.proofs.States.{Callers, nobody, from, State, spot, Fits, Valid, next, pop, at, pos, base, number, Drawn}
 
 -- A vertex that calls is not one that calls nothing.
-pub calls_not : {P : Type 0} {o : Option ℕ} {g : ℕ} → o ≡ some g → o ≡ none → P
+pub calls_not : {P : Type 0} {o : Option ℕ} {g : ℕ} → o ≡ Some g → o ≡ None → P
 calls_not {g = g} e q = let z : ◌≡◌ {A = ℕ} 0 1 = cc (e, q) in let w : ⊥ = omega arith in elim w [ ]
 
 module _ (d : List ℕ) where
-  pub next_call : (f v g : ℕ) (c : Callers) → called_by d f v ≡ some g → next d (spot f v c) ≡ spot g 0 (from f v c)
+  pub next_call : (f v g : ℕ) (c : Callers) → called_by d f v ≡ Some g → next d (spot f v c) ≡ spot g 0 (from f v c)
   unfolding next
   next_call f v g c e = rw e
 
-  pub next_on : (f v : ℕ) (c : Callers) → called_by d f v ≡ none → suc v < drawn_count d f → next d (spot f v c) ≡ spot f (suc v) c
+  pub next_on : (f v : ℕ) (c : Callers) → called_by d f v ≡ None → suc v < drawn_count d f → next d (spot f v c) ≡ spot f (suc v) c
   unfolding next
   next_on f v c e l = rw (e, lt-leb (drawn_count d f) (suc v) l)
 
-  pub next_pop : (f v : ℕ) (c : Callers) → called_by d f v ≡ none → drawn_count d f ≤ suc v → next d (spot f v c) ≡ pop (spot f v c) c
+  pub next_pop : (f v : ℕ) (c : Callers) → called_by d f v ≡ None → drawn_count d f ≤ suc v → next d (spot f v c) ≡ pop (spot f v c) c
   unfolding next
   next_pop f v c e l = rw (e, le-leb (drawn_count d f) (suc v) l)
 
@@ -36,11 +36,11 @@ module _ (d : List ℕ) where
   at_suc i = refl
 
 module _ (d : List ℕ) (size : ℕ → ℕ) where
-  pub pos_none : (f v : ℕ) → called_by d f v ≡ none → pos d size f (suc v) ≡ suc (pos d size f v)
+  pub pos_none : (f v : ℕ) → called_by d f v ≡ None → pos d size f (suc v) ≡ suc (pos d size f v)
   unfolding pos
   pos_none f v e = rw e (omega arith)
 
-  pub pos_some : (f v g : ℕ) → called_by d f v ≡ some g → pos d size f (suc v) ≡ pos d size f v + 1 + size g
+  pub pos_some : (f v g : ℕ) → called_by d f v ≡ Some g → pos d size f (suc v) ≡ pos d size f v + 1 + size g
   unfolding pos
   pos_some f v g e = rw e
 
@@ -58,7 +58,7 @@ module _ (d : List ℕ) (size : ℕ → ℕ) (D : Drawn d size) where
   fits_known f (from g u c) e = D.known g u f (fits_known g c e.2) e.1 e.0
 
   -- A call vertex is not its graph's last vertex.
-  pub not_last : (g u f : ℕ) → g < drawn_functions d → u < drawn_count d g → called_by d g u ≡ some f → suc u < drawn_count d g
+  pub not_last : (g u f : ℕ) → g < drawn_functions d → u < drawn_count d g → called_by d g u ≡ Some f → suc u < drawn_count d g
   not_last g u f k l e =
       by_order (suc u) (drawn_count d g) (λ p. p)
       (λ p. calls_not e (D.quiet g u k (omega arith)))
@@ -86,9 +86,9 @@ module _ (d : List ℕ) (size : ℕ → ℕ) (D : Drawn d size) where
   before (spot f (suc v) c) p = inr (by_call (called_by d f v) refl)
     where
       by_call : (o : Option ℕ) → called_by d f v ≡ o → Before (spot f (suc v) c)
-      by_call none e =
+      by_call None e =
           record { prior = spot f v c; valid = (omega (arith, p.0), p.1); follows = next_on d f v c e p.0; counted = omega (arith, pos_none d size f v e) }
-      by_call (some g) e =
+      by_call (Some g) e =
           let k = D.known f v g (fits_known f c p.1) (omega (arith, p.0)) e in
           let w = last_of g k in
           record {
@@ -140,13 +140,13 @@ module _ (d : List ℕ) (size : ℕ → ℕ) (D : Drawn d size) where
   next_spotted i (spot f v c) p l = by_call (called_by d f v) refl
     where
       by_call : (o : Option ℕ) → called_by d f v ≡ o → Spotted (suc i) (next d (spot f v c))
-      by_call (some g) e =
+      by_call (Some g) e =
           rw (next_call d f v g c e)
           (record {
             valid = (D.some_vertex g (D.known f v g (fits_known f c p.valid.1) p.valid.0 e), (e, p.valid.0, p.valid.1));
             counted = omega (arith, p.counted);
           })
-      by_call none e =
+      by_call None e =
           by_order (suc v) (drawn_count d f)
           (λ t. rw (next_on d f v c e t) (record { valid = (t, p.valid.1); counted = omega (arith, p.counted, pos_none d size f v e) }))
           (λ t. rw (next_pop d f v c e t) (leaves i f v c l (omega (arith, p.valid.0)) p.valid.1 p.counted))

@@ -3,7 +3,7 @@ use Prim.Native.Nat.{ℕ, zero, suc, ◌+◌, ◌≤◌, ◌<◌}
 use mathlib.Core.Path.{◌≡◌, refl, sym, ap, subst, ◌∙◌}
 use mathlib.Core.Bool.{true, false}
 use mathlib.Core.List.{List, Memᴰ}
-use mathlib.Core.Option.{Option, some, none}
+use Rattle.std.specs.Prelude.{Option, Some, None}
 use mathlib.Core.Logic.{◌⊎◌, inl, inr, ⊎_elim}
 use native.Mathlib.Omega.{arith}
 use Rattle.model.specs.declared.Loop.{Loop}
@@ -51,8 +51,8 @@ module _ (d : List ℕ) (size : ℕ → ℕ) (D : Drawn d size) (L : DrawnLawful
   lead_state (spot f v c) p l = by_call (called_by d f v) refl
     where
       by_call : (o : Option ℕ) → called_by d f v ≡ o → (t : State) × Step d (spot f v c) t
-      by_call (some g) e = (spot g 0 (from f v c), call e)
-      by_call none e =
+      by_call (Some g) e = (spot g 0 (from f v c), call e)
+      by_call None e =
           by_order (suc v) (drawn_count d f)
           (λ q. let (w, x) = (L f (fits_known d size D f c p.1)).leads v q in (spot f w c, go e x))
           (λ q. return_state f v c p.1 (omega (arith, p.0)) l)

@@ -1,12 +1,11 @@
 -- Where no function can reach itself by calls, every copy has a size: its function's vertices and the copies that they call.
 use Prim.Native.Nat.{ℕ, zero, suc, ◌+◌, ◌≤◌, ◌<◌}
+use Rattle.std.specs.Prelude.{Ok, Option, Some, None}
 use mathlib.Core.Path.{◌≡◌, refl, ap₂}
 use mathlib.Core.List.{List}
 use mathlib.Core.Bool.{Bool, true, false}
-use mathlib.Core.Option.{Option, some, none}
 use native.Mathlib.Omega.{arith}
 use Rattle.model.specs.declared.Refusal.TheVariants.{Recursive}
-use Rattle.model.specs.declared.Verdict.TheVariants.{Accepted}
 use Rattle.model.specs.Costs.{total, how_many}
 use Rattle.model.specs.Drawings.{drawn_functions, drawn_count, called_by}
 use Rattle.model.specs.Inlined.{via, calls, reaches_itself, judge_calls}
@@ -52,17 +51,17 @@ module _ (d : List ℕ) where
   unfoldable pub size : ℕ → ℕ
   size f = sizes (suc (drawn_functions d)) f
 
-  pos_same : (s t : ℕ → ℕ) (f n : ℕ) → ((v g : ℕ) → v < n → called_by d f v ≡ some g → s g ≡ t g) → pos d s f n ≡ pos d t f n
+  pos_same : (s t : ℕ → ℕ) (f n : ℕ) → ((v g : ℕ) → v < n → called_by d f v ≡ Some g → s g ≡ t g) → pos d s f n ≡ pos d t f n
   unfolding pos
   pos_same s t f zero same = refl
   pos_same s t f (suc n) same =
       ap₂ (λ (a b : ℕ). a + 1 + b) (pos_same s t f n (λ v g h. same v g (omega arith))) (at_call (called_by d f n) (λ g. same n g (omega arith)))
     where
-      at_call : (o : Option ℕ) → ((g : ℕ) → o ≡ some g → s g ≡ t g) → copied d s o ≡ copied d t o
-      at_call none p = refl
-      at_call (some g) p = p g refl
+      at_call : (o : Option ℕ) → ((g : ℕ) → o ≡ Some g → s g ≡ t g) → copied d s o ≡ copied d t o
+      at_call None p = refl
+      at_call (Some g) p = p g refl
 
-  module _ (facts : DrawingFacts d) (accepted : judge_calls d ≡ Accepted) where
+  module _ (facts : DrawingFacts d) (accepted : judge_calls d ≡ Ok tt) where
     -- How many functions f can reach: a callee can reach fewer.
     abbrev reach : ℕ → ℕ → Bool
     reach = via (calls d) (drawn_functions d)
@@ -74,7 +73,7 @@ module _ (d : List ℕ) where
     unfolding judge_calls
     never = kept (drawn_functions d) (reaches_itself d) Recursive accepted
 
-    module _ (f v g : ℕ) (h : f < drawn_functions d) (low : v < drawn_count d f) (called : called_by d f v ≡ some g) where
+    module _ (f v g : ℕ) (h : f < drawn_functions d) (low : v < drawn_count d f) (called : called_by d f v ≡ Some g) where
       known : g < drawn_functions d
       known = (facts.drawn f h).known v g low called
 

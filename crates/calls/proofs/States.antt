@@ -3,7 +3,7 @@ use Prim.Native.Nat.{ℕ, zero, suc, ◌+◌, ◌-◌, ◌≤◌, ◌<◌}
 use mathlib.Core.Path.{◌≡◌}
 use mathlib.Core.Bool.{cond}
 use mathlib.Core.List.{List}
-use mathlib.Core.Option.{Option, some, none}
+use Rattle.std.specs.Prelude.{Option, Some, None}
 use native.Mathlib.Omega.{arith}
 use lib.Dec.{leb}
 use Rattle.model.specs.Walks.{EdgeOf}
@@ -29,21 +29,21 @@ module _ (d : List ℕ) where
   -- Function f can run under these callers.
   abbrev pub Fits : ℕ → Callers → Type 0
   Fits f nobody = f ≡ 0
-  Fits f (from g u c) = (called_by d g u ≡ some f) × (u < drawn_count d g) × Fits g c
+  Fits f (from g u c) = (called_by d g u ≡ Some f) × (u < drawn_count d g) × Fits g c
 
   abbrev pub Valid : State → Type 0
   Valid (spot f v c) = (v < drawn_count d f) × Fits f c
 
   -- One step: a call, an edge, a return that follows an edge of the call.
   pub data Step : State → State → Type 0 where
-    call : {f v g : ℕ} {c : Callers} → called_by d f v ≡ some g → Step (spot f v c) (spot g 0 (from f v c))
-    go : {f v w : ℕ} {c : Callers} → called_by d f v ≡ none → EdgeOf (graph_of d f) v w → Step (spot f v c) (spot f w c)
+    call : {f v g : ℕ} {c : Callers} → called_by d f v ≡ Some g → Step (spot f v c) (spot g 0 (from f v c))
+    go : {f v w : ℕ} {c : Callers} → called_by d f v ≡ None → EdgeOf (graph_of d f) v w → Step (spot f v c) (spot f w c)
     back : {g v f u w : ℕ} {c : Callers} → suc v ≡ drawn_count d g → EdgeOf (graph_of d f) u w → Step (spot g v (from f u c)) (spot f w c)
 
   -- The vertex that follows in the one problem: a copy follows its call vertex.
   abbrev pub after : Option ℕ → ℕ → ℕ → Callers → State
-  after (some g) f v c = spot g 0 (from f v c)
-  after none f v c = cond (leb (drawn_count d f) (suc v)) (pop (spot f v c) c) (spot f (suc v) c)
+  after (Some g) f v c = spot g 0 (from f v c)
+  after None f v c = cond (leb (drawn_count d f) (suc v)) (pop (spot f v c) c) (spot f (suc v) c)
 
   unfoldable pub next : State → State
   next (spot f v c) = after (called_by d f v) f v c
@@ -55,8 +55,8 @@ module _ (d : List ℕ) where
 
   module _ (size : ℕ → ℕ) where
     abbrev pub copied : Option ℕ → ℕ
-    copied none = 0
-    copied (some g) = size g
+    copied None = 0
+    copied (Some g) = size g
 
     -- Vertices before v in a copy of f.
     unfoldable pub pos : ℕ → ℕ → ℕ
@@ -75,16 +75,16 @@ module _ (d : List ℕ) where
 pub record Drawn (d : List ℕ) (size : ℕ → ℕ) : Type 0 where
   pub first : 0 < drawn_functions d
   pub some_vertex : (f : ℕ) → f < drawn_functions d → 1 ≤ drawn_count d f
-  pub known : (f v g : ℕ) → f < drawn_functions d → v < drawn_count d f → called_by d f v ≡ some g → g < drawn_functions d
+  pub known : (f v g : ℕ) → f < drawn_functions d → v < drawn_count d f → called_by d f v ≡ Some g → g < drawn_functions d
   pub inside : (f u v : ℕ) → f < drawn_functions d → EdgeOf (graph_of d f) u v → v < drawn_count d f
-  pub quiet : (f v : ℕ) → f < drawn_functions d → suc v ≡ drawn_count d f → called_by d f v ≡ none
+  pub quiet : (f v : ℕ) → f < drawn_functions d → suc v ≡ drawn_count d f → called_by d f v ≡ None
   pub sized : (f : ℕ) → f < drawn_functions d → size f ≡ pos d size f (drawn_count d f)
 
 module _ (d : List ℕ) (facts : DrawingFacts d) where
   edge_inside : (f u v : ℕ) → f < drawn_functions d → EdgeOf (graph_of d f) u v → v < drawn_count d f
   edge_inside f u v k = every_edge d facts f k (λ e. e.to < drawn_count d f) (facts.drawn f k).to (record { from = u; to = v })
 
-  quiet_last : (f v : ℕ) → f < drawn_functions d → suc v ≡ drawn_count d f → called_by d f v ≡ none
+  quiet_last : (f v : ℕ) → f < drawn_functions d → suc v ≡ drawn_count d f → called_by d f v ≡ None
   quiet_last f v k e = let q : v ≡ drawn_count d f - 1 = omega arith in rw q (facts.drawn f k).quiet
 
   pub drawn : (size : ℕ → ℕ) → ((f : ℕ) → f < drawn_functions d → size f ≡ pos d size f (drawn_count d f)) → Drawn d size

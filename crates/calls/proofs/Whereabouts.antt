@@ -3,7 +3,7 @@ use Prim.Native.Nat.{ℕ, zero, suc, ◌+◌, ◌≤◌, ◌<◌}
 use mathlib.Core.Path.{◌≡◌, refl, sym, subst, ◌∙◌}
 use mathlib.Core.Bool.{true}
 use mathlib.Core.List.{List}
-use mathlib.Core.Option.{Option, some, none}
+use Rattle.std.specs.Prelude.{Option, Some, None}
 use mathlib.Core.Logic.{◌⊎◌, inl, inr}
 use native.Mathlib.Omega.{arith}
 use Rattle.model.specs.declared.Loop.{Loop}
@@ -67,8 +67,8 @@ module _ (d : List ℕ) (size : ℕ → ℕ) (D : Drawn d size) where
   deep (suc k) g u c s few fits l p a b = by_call (deep k) (called_by d g u) refl
     where
       by_call : Deep k → (o : Option ℕ) → called_by d g u ≡ o → Inside d size g u c s
-      by_call deeper none e = let z : ⊥ = omega (arith, pos_none d size g u e) in elim z [ ]
-      by_call deeper (some x) e =
+      by_call deeper None e = let z : ⊥ = omega (arith, pos_none d size g u e) in elim z [ ]
+      by_call deeper (Some x) e =
           let more = pos_some d size g u x e in
           let (v, low, m, n) = locate_in x (from g u c) (number d size s) (e, l, fits) (omega arith) (omega arith) in
           by_order (base d size (from g u c) + pos d size x v) (number d size s)

@@ -6,14 +6,14 @@ use native.Mathlib.Omega.{arith}
 use lib.ListN.{length}
 use Rattle.model.specs.declared.Loop.{Loop}
 use Rattle.model.specs.Zero.{zero_loop}
-use Rattle.model.specs.Graph.{loop}
+use Rattle.model.specs.Graph.{edge, loop}
 use Rattle.model.specs.Operations.{Checked}
 use Rattle.model.specs.Places as places
 use Rattle.model.proofs.Lists.{mem-get_or}
 use Rattle.facts.specs.Fields.{FieldFacts}
 use Rattle.lookup.specs.Lists.{vertices_in, edges_in, loops_in}
 use Rattle.lookup.proofs.Places as lookup
-use Rattle.lookup.proofs.Places.{few_loops, header_small, last_small}
+use Rattle.lookup.proofs.Places.{some_vertex, few_vertices, few_edges, few_loops, from_small, to_small, header_small, last_small}
 use Rattle.greatest.proofs.Rules.{Rules, Order}
 use Rattle.greatest.proofs.Graph.{EdgeIn, ascend_at, rules, order}
 use Rattle.greatest.proofs.Checked.{checked_graph, checked_ranges}
@@ -44,6 +44,11 @@ pub record LoopRange (l : List ℕ) (i header last : ℕ) : Type 0 where
   pub at_header : header ≡ (loop (loops_in l) i).header
   pub at_last_lem : last ≡ (loop (loops_in l) i).last
 
+pub loop_range : {l : List ℕ} {i header last : ℕ} → Checked l → i < length (loops_in l)
+    → header ≡ (loop (loops_in l) i).header → last ≡ (loop (loops_in l) i).last → LoopRange l i header last
+loop_range checked below at_header at_last =
+    record { checked = checked; below = below; at_header = at_header; at_last_lem = at_last }
+
 module _ {l : List ℕ} {i header last : ℕ} (range : LoopRange l i header last) where
   pub member : Memᴰ (loop (loops_in l) i) (loops_in l)
   member = loop_in range.checked i range.below
@@ -58,3 +63,33 @@ module _ {l : List ℕ} {i header last : ℕ} (range : LoopRange l i header last
         omega (arith, header_small l ok i range.below),
         omega (arith, last_small l ok i range.below),
       )
+
+-- What the checks of functions over checked numbers ask, in the form in which `grind` finds it.
+pub few_edges_in : (l : List ℕ) → Checked l → length (edges_in l) ≤ places.most_edges
+few_edges_in l ok = few_edges l (facts ok)
+
+pub few_loops_in : (l : List ℕ) → Checked l → length (loops_in l) ≤ places.most_loops
+few_loops_in l ok = few_loops l (facts ok)
+
+pub some_vertices_in : (l : List ℕ) → Checked l → 1 ≤ vertices_in l
+some_vertices_in l ok = some_vertex l (facts ok)
+
+pub few_vertices_in : (l : List ℕ) → Checked l → vertices_in l ≤ places.most_vertices
+few_vertices_in l ok = few_vertices l (facts ok)
+
+pub from_inside : (l : List ℕ) (i : ℕ) → Checked l → i < length (edges_in l) → (edge (edges_in l) i).from < places.most_vertices
+from_inside l i ok below = from_small l (facts ok) i below
+
+pub to_inside : (l : List ℕ) (i : ℕ) → Checked l → i < length (edges_in l) → (edge (edges_in l) i).to < places.most_vertices
+to_inside l i ok below = to_small l (facts ok) i below
+
+pub header_inside : (l : List ℕ) (i : ℕ) → Checked l → i < length (loops_in l) → (loop (loops_in l) i).header < places.most_vertices
+header_inside l i ok below = header_small l (facts ok) i below
+
+pub last_inside : (l : List ℕ) (i : ℕ) → Checked l → i < length (loops_in l) → (loop (loops_in l) i).last < places.most_vertices
+last_inside l i ok below = last_small l (facts ok) i below
+
+pub header_first : (l : List ℕ) (i : ℕ) → Checked l → i < length (loops_in l) → (loop (loops_in l) i).header ≤ (loop (loops_in l) i).last
+header_first l i ok below = wide ok _ (loop_in ok i below)
+
+pub ruleset checked_bounds = (some_vertices_in, few_vertices_in, few_edges_in, few_loops_in, from_inside, to_inside, header_inside, last_inside, header_first)

@@ -1,39 +1,18 @@
 -- The chains of the loops, filled a loop at a time.
-use Prim.Native.Nat.{ℕ, ◌+◌, ◌≤◌, ◌<◌}
-use mathlib.Core.Path.{◌≡◌, refl, ◌∙◌}
+use Prim.Native.Nat.{ℕ, ◌+◌, ◌≤◌}
+use mathlib.Core.Path.{◌≡◌, ◌∙◌}
 use mathlib.Core.List.{List}
 use native.Mathlib.Omega.{arith}
 use lib.ListN.{length, get_or, set, replicate, length-set, length-replicate}
 use lib.Seq.{get_or-set_same, get_or-set_other}
-use lib.Dec.{eqb}
-use borrow.Author.Tests.{eqb-true, eqb-false}
 use Rattle.model.specs.Graph.{loop}
 use Rattle.model.specs.Places as places
-use Rattle.model.proofs.Cases.{by_bool, by_order}
+use Rattle.model.proofs.Cases.{by_order}
 use Rattle.lookup.specs.Lists.{loops_in}
 use Rattle.greatest.proofs.Loops.{holds_from, past_range}
 use Rattle.chains.specs.Chains.{loop_places, Chains, around, headers, LoopChains, Overwritten}
 use Rattle.chains.proofs.Checks.{LoopRange, range_small}
 use Rattle.chains.proofs.Chains.{no_chains, one_more_lem, all_chains}
-
--- A place after the other is overwritten.
-pub none_overwritten : (s : List ℕ) (first with : ℕ) → Overwritten s s first first with
-none_overwritten s first with = record { long = refl; inside = λ v p q. absurd (omega arith); below = λ v p. refl; above = λ v p. refl }
-
-pub one_overwritten : {s t : List ℕ} {first v with : ℕ} → first ≤ v → v < length s → Overwritten s t first v with → Overwritten s (set t v with) first (v + 1) with
-one_overwritten {s} {t} {first} {v} {with} low high m =
-    record {
-      long = length-set t v with ∙ m.long;
-      inside = λ w p q.
-          by_bool (eqb w v)
-          (λ e. let z = eqb-true w v e in rw z (get_or-set_same t v with 0 (omega (arith, m.long))))
-          (λ e. get_or-set_other t v w with 0 (eqb-false w v e) ∙ m.inside w p (omega (arith, eqb-false w v e)));
-      below = λ w p. get_or-set_other t v w with 0 (λ q. omega arith) ∙ m.below w p;
-      above = λ w p. get_or-set_other t v w with 0 (λ q. omega arith) ∙ m.above w (omega arith);
-    }
-
-pub all_overwritten : {s t : List ℕ} {first v end with : ℕ} → v ≤ end → end ≤ v → Overwritten s t first v with → Overwritten s t first end with
-all_overwritten {v = v} {end = end} low high m = let q : v ≡ end = omega arith in rw q at m
 
 -- The first i loops are in the table.
 pub record LoopsIn (l : List ℕ) (i : ℕ) (s : List ℕ) : Type 0 where

@@ -20,18 +20,17 @@ pub type LoopTable = [usize; LOOP_PLACES];
 
 // The edges as chains by where they lead: the place of v has one more than the number of the last edge to v, and that of edge i one more than that of
 // the last edge before edge i to the same vertex. 0 ends a chain.
+#[tactic(auto, using(crate::proofs::Checks::checked_bounds))]
 pub fn edge_chains(l: &Numbers) -> EdgeTable
     requires { Checked l.now }
     ensures { EdgeChains l.now result }
 {
     let mut edges = [0usize; EDGE_PLACES];
     let count = lookup::edge_count(l);
-    let mut i: usize = 0;
-    while i < count {
+    for i in 0..count {
         let to = lookup::edge_to(l, i);
         edges[places::MOST_VERTICES + i] = edges[to];
         edges[to] = i + 1;
-        i += 1;
     }
     edges
 }
@@ -43,28 +42,23 @@ fn overwrite(loops: &mut LoopTable, first: usize, end: usize, with: usize)
     requires fact_3 { end ≤ most_vertices }
     ensures { Overwritten loops.old loops.new first end with }
 {
-    let mut v = first;
-    while v < end {
-        loops[v] = with;
-        v += 1;
-    }
+    loops[first..end].fill(with);
 }
 
 // The loops as chains by what they hold, from the inside out: the place of v has one more than the number of the last loop that holds v, and that of
 // loop i one more than that of the last loop before loop i that holds its header.
+#[tactic(auto, using(crate::proofs::Checks::checked_bounds))]
 pub fn loop_chains(l: &Numbers) -> LoopTable
     requires { Checked l.now }
     ensures { LoopChains l.now result }
 {
     let mut loops = [0usize; LOOP_PLACES];
     let count = lookup::loop_count(l);
-    let mut i: usize = 0;
-    while i < count {
+    for i in 0..count {
         let header = lookup::loop_header(l, i);
         let last = lookup::loop_last(l, i);
         loops[places::MOST_VERTICES + i] = loops[header];
         overwrite(&mut loops, header, last + 1, i + 1);
-        i += 1;
     }
     loops
 }

@@ -11,7 +11,7 @@ ghost use Rattle.entered.specs.Entered.{EnteredTold};
 ghost use Rattle.charges.specs.Tests.{contested_by, Flags, flagged, Tallied, Charged};
 
 use entered::EnteredFlags;
-use model::{Cycles, Numbers, places, units};
+use model::{Cycles, Numbers, places};
 
 // Whether some walk arrives at v with a rival of its function held: two words have a member in common.
 fn is_contested(
@@ -48,12 +48,10 @@ pub fn mark_contested(
 {
     let count = lookup::vertex_count(l);
     let mut tally: usize = 0;
-    let mut v: usize = 0;
-    while v < count {
+    for v in 0..count {
         let flag = flag_of(is_contested(l, rivals, held, v));
         flags[v] = flag;
         tally += flag as usize;
-        v += 1;
     }
     tally
 }
@@ -85,8 +83,8 @@ fn visit_charge(
     let f = lookup::function_of(l, v);
     let check = lookup::check_of(l, f);
     let load = lookup::load_of(l, f);
-    let unloaded = units::sum_of_cycles(own, times(entered[v], check));
-    units::sum_of_cycles(unloaded, times(flags[v], load))
+    let unloaded = own + times(entered[v], check);
+    unloaded + times(flags[v], load)
 }
 
 // The visit charges in a table that is all zero, and stays so past the vertices.
@@ -103,10 +101,8 @@ pub fn fill_charges(
     ensures { Charged (problem_of l.now) (flagged flags.now) charge.new }
 {
     let count = lookup::vertex_count(l);
-    let mut v: usize = 0;
-    while v < count {
+    for v in 0..count {
         let visit = visit_charge(l, entered, flags, v);
         charge[v] = visit.0;
-        v += 1;
     }
 }

@@ -1,5 +1,5 @@
 // Answers in print.
-use model::{BoundAnswer, Problem, Refusal, RunAnswer, WriteAnswer};
+use model::{Bound, Problem, Refusal, Run};
 use prints::{number, text};
 use std::io;
 use std::io::Write;
@@ -8,34 +8,29 @@ use std::io::Write;
 const ROOM: usize = 4096;
 
 fn refused(out: &mut impl Write, refusal: Refusal) -> io::Result<()> {
-    prints::placed(
-        out,
-        b"refused ",
-        model::number_of(refusal),
-        model::place_of(refusal),
-    )
+    prints::placed(out, b"refused ", refusal.number(), refusal.place())
 }
 
-pub fn bounded(out: &mut impl Write, answer: BoundAnswer) -> io::Result<()> {
+pub fn bounded(out: &mut impl Write, answer: Result<Bound, Refusal>) -> io::Result<()> {
     match answer {
-        BoundAnswer::Bounded(b) => {
+        Ok(b) => {
             number(out, b"need ", b.need.0)?;
             number(out, b", contested ", b.contested as u64)?;
             number(out, b", first loads ", b.first.0)?;
             number(out, b", bound ", b.bound.0)?;
         }
-        BoundAnswer::Refused(f) => refused(out, f)?,
+        Err(f) => refused(out, f)?,
     }
     text(out, b"\n")
 }
 
-pub fn ran(out: &mut impl Write, answer: RunAnswer) -> io::Result<()> {
+pub fn ran(out: &mut impl Write, answer: Result<Run, Refusal>) -> io::Result<()> {
     match answer {
-        RunAnswer::Ran(run) => {
+        Ok(run) => {
             number(out, b"cycles ", run.cycles.0)?;
             number(out, b", loads ", run.loads)?;
         }
-        RunAnswer::Refused(f) => refused(out, f)?,
+        Err(f) => refused(out, f)?,
     }
     text(out, b"\n")
 }
@@ -69,8 +64,8 @@ pub fn record(out: &mut impl Write, name: &[u8], problem: Problem) -> io::Result
     text(out, name)?;
     text(out, b": ")?;
     match answer {
-        WriteAnswer::Written(bytes) => written(out, bytes as u64, room[0])?,
-        WriteAnswer::Refused(f) => refused(out, f)?,
+        Ok(bytes) => written(out, bytes as u64, room[0])?,
+        Err(f) => refused(out, f)?,
     }
     text(out, b"\n")
 }

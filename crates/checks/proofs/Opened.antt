@@ -1,13 +1,11 @@
 -- What an operation on a problem knows once the problem's checks have answered: the refusal is the problem's, or its numbers are checked and are its own.
 use Prim.Native.Nat.{ℕ}
+use Rattle.std.specs.Prelude.{Err, Ok, Result}
+use Rattle.model.specs.Refusals.{Verdict}
 use mathlib.Core.Path.{◌≡◌, refl, sym, ap, ◌∙◌}
 use mathlib.Core.List.{List}
 use lib.ListN.{length}
 use Rattle.model.specs.declared.Refusal.{Refusal}
-use Rattle.model.specs.declared.Verdict.{Verdict}
-use Rattle.model.specs.declared.Verdict.TheVariants as verdict
-use Rattle.model.specs.declared.FieldsAnswer.{FieldsAnswer}
-use Rattle.model.specs.declared.FieldsAnswer.TheVariants.{Done, Refused}
 use Rattle.model.specs.declared.Problem.{Problem}
 use Rattle.model.specs.Numbers.{edition_of, numbers_of, problem_of}
 use Rattle.model.specs.File.{check_fields}
@@ -22,27 +20,27 @@ use Rattle.roundtrip.proofs.Editions.{settled}
 use Rattle.checks.specs.Steps.{check_numbers, judge_numbers}
 
 -- Checks that end well had the fields and the graph end well.
-pub record Good (f : FieldsAnswer) (p : Problem) (need : ℕ) : Type 0 where
-  pub fields : f ≡ Done need
-  pub graph : judge_graph p ≡ verdict.Accepted
+pub record Good (f : Result ℕ Refusal) (p : Problem) (need : ℕ) : Type 0 where
+  pub fields : f ≡ Ok need
+  pub graph : judge_graph p ≡ Ok tt
 
-pub good : (f : FieldsAnswer) (p : Problem) (need : ℕ) → after_fields f p ≡ Done need → Good f p need
-good (Done n) p need e = at (judge_graph p) refl e
+pub good : (f : Result ℕ Refusal) (p : Problem) (need : ℕ) → after_fields f p ≡ Ok need → Good f p need
+good (Ok n) p need e = at (judge_graph p) refl e
   where
-    at : (v : Verdict) → judge_graph p ≡ v → after_graph v n ≡ Done need → Good (Done n) p need
-    at verdict.Accepted g q = record { fields = q; graph = g }
-    at (verdict.Refused r) g q = refused_not_done q
-good (Refused r) p need e = refused_not_done e
+    at : (v : Verdict) → judge_graph p ≡ v → after_graph v n ≡ Ok need → Good (Ok n) p need
+    at (Ok tt) g q = record { fields = q; graph = g }
+    at (Err r) g q = refused_not_done q
+good (Err r) p need e = refused_not_done e
 
 -- An answer whose verdict is a refusal is that refusal.
-pub refused_as_lem : (f : FieldsAnswer) (x : Refusal) → as_verdict f ≡ verdict.Refused x → f ≡ Refused x
-refused_as_lem (Done n) x e = refused_not_accepted (sym e)
-refused_as_lem (Refused r) x e = cc
+pub refused_as_lem : (f : Result ℕ Refusal) (x : Refusal) → as_verdict f ≡ Err x → f ≡ Err x
+refused_as_lem (Ok n) x e = refused_not_accepted (sym e)
+refused_as_lem (Err r) x e = cc
 
 -- One whose verdict is good has a length.
-pub accepted_as : (f : FieldsAnswer) → as_verdict f ≡ verdict.Accepted → (need : ℕ) × (f ≡ Done need)
-accepted_as (Done n) e = (n, refl)
-accepted_as (Refused r) e = refused_not_accepted e
+pub accepted_as : (f : Result ℕ Refusal) → as_verdict f ≡ Ok tt → (need : ℕ) × (f ≡ Ok need)
+accepted_as (Ok n) e = (n, refl)
+accepted_as (Err r) e = refused_not_accepted e
 
 module _ (p : Problem) (l : List ℕ) (numbered : Numbered p l) where
   -- The numbers are the problem's own.
@@ -53,7 +51,7 @@ module _ (p : Problem) (l : List ℕ) (numbered : Numbered p l) where
   unfolding check_numbers check_problem
   same_checks = rw numbered.is (ap (after_fields (check_fields (numbers_of p))) (problem_of_numbers (edition_of p) p numbered.sized))
 
-  pub checks_problem : (f : FieldsAnswer) → f ≡ check_numbers l → f ≡ check_problem p
+  pub checks_problem : (f : Result ℕ Refusal) → f ≡ check_numbers l → f ≡ check_problem p
   checks_problem f is = is ∙ same_checks
 
   module _ (v : Verdict) (is : v ≡ judge_numbers l) where
@@ -61,7 +59,7 @@ module _ (p : Problem) (l : List ℕ) (numbered : Numbered p l) where
     unfolding judge_numbers judge_problem
     judges_problem = is ∙ ap as_verdict same_checks
 
-    pub opened : v ≡ verdict.Accepted → Checked l
+    pub opened : v ≡ Ok tt → Checked l
     unfolding judge_numbers check_numbers
     opened e =
         let (need, done) = accepted_as (check_numbers l) (sym is ∙ e) in
@@ -69,9 +67,9 @@ module _ (p : Problem) (l : List ℕ) (numbered : Numbered p l) where
         record { size = ap length numbered.is ∙ numbers_length (edition_of p) p numbered.sized; need = need; fields = g.fields; graph = g.graph }
 
 -- Checked numbers are those of a problem that passes its checks, in whatever edition they are.
-pub checked_problem : (l : List ℕ) → Checked l → judge_problem (problem_of l) ≡ verdict.Accepted
+pub checked_problem : (l : List ℕ) → Checked l → judge_problem (problem_of l) ≡ Ok tt
 unfolding judge_problem check_problem
 checked_problem l ok =
     let (need, done) = settled l ok.size (field_facts l ok.need ok.fields) in
-    ap (λ (f : FieldsAnswer). as_verdict (after_fields f (problem_of l))) done
+    ap (λ (f : Result ℕ Refusal). as_verdict (after_fields f (problem_of l))) done
     ∙ ap (λ (v : Verdict). as_verdict (after_graph v need)) ok.graph

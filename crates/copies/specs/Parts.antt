@@ -1,5 +1,5 @@
 -- The parts of an inlined problem's numbers: what comes before its vertices, and its vertices.
-use Rattle.std.specs.Prelude.{ℕ, ◌≤◌, ◌<◌, length, take}
+use Rattle.std.specs.Prelude.{ℕ, ◌≤◌, ◌<◌, length}
 use mathlib.Core.List.{List, ◌∷◌, flat_map}
 use Rattle.model.specs.declared.Row.{Row}
 use Rattle.model.specs.Places as places
@@ -23,8 +23,8 @@ pub record Known (r : Row) : Type 0 where
   pub function : r.function < places.most_functions
   pub vertex : r.vertex < places.most_vertices
 
--- What storing the first `count` rows needs.
-pub record Copied (d : List ℕ) (rows : List Row) (count : ℕ) : Type 0 where
+-- What storing the rows needs.
+pub record Copied (d : List ℕ) (rows : List Row) : Type 0 where
   pub facts : DrawingFacts d
-  pub fit : RowsFit d (take count rows)
-  pub few : count ≤ places.most_vertices
+  pub fit : RowsFit d rows
+  pub few : length rows ≤ places.most_vertices

@@ -1,7 +1,7 @@
 // An inlined drawing's functions and vertices among the numbers of its one problem: the functions as drawn, and each row's function and own cost.
 #![tactic(auto)]
 
-ghost use Rattle.std.specs.Prelude.{◌≡◌, ◌≤◌, take};
+ghost use Rattle.std.specs.Prelude.{◌≡◌, ◌≤◌};
 ghost use mathlib.Core.List.{flat_map};
 ghost use Rattle.std.proofs.lemmas.List.Edits.{sets};
 ghost use Rattle.model.specs.Places as spot;
@@ -10,22 +10,21 @@ ghost use Rattle.model.specs.Drawings.{drawn_function, drawn_item};
 ghost use Rattle.drawings.specs.Facts.{DrawingFacts};
 ghost use Rattle.copies.specs.Parts.{head_numbers, row_numbers, Known, Copied};
 
-use model::{Drawing, Numbers, Row, drawn, places};
+use model::{Bytes, Cycles, Drawing, Function, Numbers, Row, Vertex, drawn, places};
+use numbers::item::Item;
 
 // Each function as drawn, item by item.
 fn put_functions(d: &Drawing, count: usize, numbers: &mut Numbers)
     requires { count ≤ spot.most_functions }
     ensures { numbers.new ≡ sets numbers.old spot.size (flat_map function_numbers (table count (drawn_function d.now))) }
 {
-    let mut i: usize = 0;
-    while i < count {
-        let size = drawings::drawn_at(d, i, drawn::SIZE);
-        let load = drawings::drawn_at(d, i, drawn::LOAD);
-        let check = drawings::drawn_at(d, i, drawn::CHECK);
-        numbers[places::SIZE + places::FUNCTION_WIDTH * i] = size as u64;
-        numbers[places::LOAD + places::FUNCTION_WIDTH * i] = load as u64;
-        numbers[places::CHECK + places::FUNCTION_WIDTH * i] = check as u64;
-        i += 1;
+    for i in 0..count {
+        let function = Function {
+            size: Bytes(drawings::drawn_at(d, i, drawn::SIZE) as u64),
+            load: Cycles(drawings::drawn_at(d, i, drawn::LOAD) as u64),
+            check: Cycles(drawings::drawn_at(d, i, drawn::CHECK) as u64),
+        };
+        function.put(numbers, places::SIZE + places::FUNCTION_WIDTH * i);
     }
 }
 
@@ -51,16 +50,16 @@ fn own_cost(d: &Drawing, r: Row) -> usize
 }
 
 // The number of rows, and each row's function and own cost.
-pub fn put_vertices(d: &Drawing, rows: [Row; rows::ROOM], count: usize, numbers: &mut Numbers)
-    requires { Copied d.now rows count }
-    ensures { numbers.new ≡ sets numbers.old spot.vertex_count (row_numbers d.now (take count rows)) }
+pub fn put_vertices(d: &Drawing, rows: &[Row], numbers: &mut Numbers)
+    requires { Copied d.now rows.now }
+    ensures { numbers.new ≡ sets numbers.old spot.vertex_count (row_numbers d.now rows.now) }
 {
-    numbers[places::VERTEX_COUNT] = count as u64;
-    let mut i: usize = 0;
-    while i < count {
-        let r = rows[i];
-        numbers[places::FUNCTION + places::VERTEX_WIDTH * i] = r.function as u64;
-        numbers[places::COST + places::VERTEX_WIDTH * i] = own_cost(d, r) as u64;
-        i += 1;
+    numbers[places::VERTEX_COUNT] = rows.len() as u64;
+    for (i, r) in rows.iter().enumerate() {
+        let vertex = Vertex {
+            function: r.function,
+            cost: Cycles(own_cost(d, *r) as u64),
+        };
+        vertex.put(numbers, places::FUNCTION + places::VERTEX_WIDTH * i);
     }
 }

@@ -1,10 +1,9 @@
 -- A number's digits: one digit more, how many there are, and the last of them.
-use Prim.Native.Nat.{ℕ, zero, suc, ◌+◌, ◌-◌, ◌/◌, ◌%◌, ◌^◌, ◌≤◌, ◌<◌}
+use Prim.Native.Nat.{ℕ, zero, suc, ◌+◌, ◌-◌, ◌*◌, ◌/◌, ◌%◌, ◌^◌, ◌≤◌, ◌<◌, max}
 use native.Mathlib.Omega.{arith}
-use native.Mathlib.Decide.{dec_lt}
 use mathlib.Core.Path.{◌≡◌, refl, sym, ap, ◌∙◌}
 use mathlib.Core.Bool.{Bool, true, false, cond}
-use mathlib.Core.List.{List, [], ◌∷◌, ◌++◌, append-nil}
+use mathlib.Core.List.{List, [], ◌∷◌, ◌++◌}
 use lib.ListN.{length, length-append}
 use lib.Dec.{ltb}
 use borrow.Author.Tests.{lt-ltb, le-ltb}
@@ -73,3 +72,9 @@ many_digits (suc k) n h = omega (arith, long_size n (omega (arith, power k)), ma
 
 pub word_digits : (n : ℕ) → n < 2 ^ 64 → length (decimal n) ≤ most_digits
 word_digits n h = few_digits (most_digits - 1) n (omega arith)
+
+-- The power of ten that a number reaches, 1 for 0, gives its digits.
+pub size_by_power : (n k : ℕ) → 10 ^ k ≤ max n 1 → max n 1 < 10 * 10 ^ k → length (decimal n) ≡ k + 1
+size_by_power zero zero low high = short_size 0 (omega arith)
+size_by_power zero (suc k) low high = absurd (omega (arith, power k))
+size_by_power (suc n) k low high = omega (arith, few_digits k (suc n) (omega arith), many_digits k (suc n) (omega arith))

@@ -1,30 +1,28 @@
--- Digits counted, and stored one by one from the last; and one part written behind another.
+-- A text copied, digits stored one by one from the last, and one part written behind another.
 use Prim.Native.Nat.{ℕ, zero, suc, ◌+◌, ◌-◌, ◌/◌, ◌%◌, ◌≤◌, ◌<◌}
 use native.Mathlib.Omega.{arith}
 use mathlib.Core.Path.{◌≡◌, refl, sym, ap, ◌∙◌}
 use mathlib.Core.List.{List, [], ◌∷◌, ◌++◌}
 use lib.ListN.{length, set, take, drop, length-append, length-set}
-use lib.Seq.{sets, sets-eq, set_comm, take_at, length-sets}
+use borrow.Rule.Slice.PartMut.{put_mid}
+use Rattle.std.proofs.lemmas.Slice.{put_mid-paste}
+use lib.Seq.{sets, sets-eq, take_all, set_comm, take_at, length-sets}
 use Rattle.model.specs.Decimals.{decimal}
 use Rattle.model.proofs.Cases.{by_order}
 use Rattle.model.proofs.Lists.{stored_behind}
 use Rattle.decimals.specs.Written.{Written}
 use Rattle.decimals.proofs.Digits.{short, long, short_size, long_size}
 
--- Digits counted, with `rest` before them.
-pub record Counting (n size rest : ℕ) : Type 0 where
-  pub same : size + length (decimal rest) ≡ length (decimal n) + 1
-  pub low : size + rest ≤ n + 1
-
-pub counting_start : (n : ℕ) → Counting n 1 n
-counting_start n = record { same = omega arith; low = omega arith }
-
-module _ (n size rest : ℕ) (c : Counting n size rest) where
-  pub counting_next : 9 < rest → Counting n (size + 1) (rest / 10)
-  counting_next h = let e = long_size rest (omega arith) in let l = c.low in let s = c.same in record { same = omega arith; low = omega arith }
-
-  pub counted : rest ≤ 9 → size ≡ length (decimal n)
-  counted h = let e = short_size rest (omega arith) in let s = c.same in omega arith
+pub text_written : (b xs zs : List ℕ) (at : ℕ) → at + length xs ≤ length b → zs ≡ xs → Written b at xs (put_mid at (at + length xs - at) b zs) (at + length xs)
+text_written b xs zs at room e =
+    record {
+      room = room;
+      stored =
+          put_mid-paste at (at + length xs - at) b zs xs (length xs) e (omega arith) refl
+          ∙ ap (λ (t : List ℕ). take at b ++ t ++ drop (at + length xs) b) (take_all (length xs) xs (omega arith))
+          ∙ sym (sets-eq xs b at room);
+      behind = refl;
+    }
 
 -- The last k digits of n.
 unfoldable pub spell : ℕ → ℕ → List ℕ

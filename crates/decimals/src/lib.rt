@@ -13,13 +13,7 @@ pub const MOST_DIGITS: usize = 20;
 pub fn decimal_size(n: u64) -> usize
     ensures { result ≡ length (decimal n) }
 {
-    let mut size: usize = 1;
-    let mut rest = n;
-    while 9 < rest {
-        rest /= 10;
-        size += 1;
-    }
-    size
+    n.max(1).ilog10() as usize + 1
 }
 
 // Writes a number at a position, from its last digit on, and answers the position after it.
@@ -28,11 +22,9 @@ pub fn write_decimal(buf: &mut [u8], at: usize, n: u64) -> usize
     ensures { Written buf.old at (decimal n) buf.new result }
 {
     let size = decimal_size(n);
-    let mut left = size;
     let mut rest = n;
-    while 0 < left {
-        left -= 1;
-        buf[at + left] = (48 + rest % 10) as u8;
+    for left in (0..size).rev() {
+        buf[at + left] = b'0' + (rest % 10) as u8;
         rest /= 10;
     }
     at + size
@@ -43,12 +35,9 @@ pub fn write_text(buf: &mut [u8], at: usize, text: &[u8]) -> usize
     requires { at + length text.now ≤ length buf.old }
     ensures { Written buf.old at text.now buf.new result }
 {
-    let mut i: usize = 0;
-    while i < text.len() {
-        buf[at + i] = text[i];
-        i += 1;
-    }
-    at + i
+    let end = at + text.len();
+    buf[at..end].copy_from_slice(text);
+    end
 }
 
 // Writes a label at a position and a number behind it, and answers the position after them.

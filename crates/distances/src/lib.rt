@@ -80,6 +80,7 @@ fn enter_start(
 }
 
 // The starts of all edges to w, met in phase t.
+#[tactic(auto, using(chains::proofs::Checks::checked_bounds))]
 fn enter_before(
     l: &Numbers,
     edges: &EdgeTable,
@@ -108,6 +109,7 @@ fn enter_before(
 }
 
 // The steps from each vertex in each phase to v in phase 1.
+#[tactic(auto, using(chains::proofs::Checks::checked_bounds))]
 pub fn distances(l: &Numbers, edges: &EdgeTable, f: usize, g: usize, v: usize) -> Steps
     requires fact_1 { Checked l.now }
     requires fact_2 { EdgeChains l.now edges.now }

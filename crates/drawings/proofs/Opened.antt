@@ -1,16 +1,15 @@
 -- A drawing that passed 3, 4, 6 to 9 and 20 has its facts: each drawn graph passed document 01's checks, and its numbers are the drawn ones.
 use Prim.Native.Nat.{ℕ, ◌+◌, ◌-◌, ◌*◌, ◌≤◌, ◌<◌}
+use Rattle.std.specs.Prelude.{Err, Ok, Option, Some, None}
+use Rattle.model.specs.Refusals.{Verdict}
 use mathlib.Core.Path.{◌≡◌, refl, sym, ap, subst, ◌∙◌}
 use mathlib.Core.List.{List}
 use mathlib.Core.Bool.{true, false, ◌&&◌}
-use mathlib.Core.Option.{Option, some, none}
 use native.Mathlib.Omega.{arith}
 use lib.ListN.{get_or}
 use lib.Dec.{leb}
 use borrow.Author.Tests.{leb-true, le-leb}
 use Rattle.model.specs.declared.Refusal.TheVariants.{LastCalls}
-use Rattle.model.specs.declared.Verdict.{Verdict}
-use Rattle.model.specs.declared.Verdict.TheVariants.{Accepted, Refused}
 use Rattle.model.specs.declared.Vertex.{Vertex}
 use Rattle.model.specs.declared.Edge.{Edge}
 use Rattle.model.specs.declared.Loop.{Loop}
@@ -41,38 +40,38 @@ use Rattle.drawings.specs.Facts.{DrawnFacts, DrawingFacts}
 use Rattle.drawings.proofs.Numbers.{drawn_numbers, functions_are, vertices_are, edges_are, loops_are, function_is, vertex_is, edge_is, loop_is}
 
 -- A verdict that does not refuse accepts.
-not_refused : (v : Verdict) → is_refused v ≡ false → v ≡ Accepted
-not_refused Accepted e = refl
-not_refused (Refused r) e = true_not_false e
+not_refused : (v : Verdict) → is_refused v ≡ false → v ≡ Ok tt
+not_refused (Ok tt) e = refl
+not_refused (Err r) e = true_not_false e
 
-no_call : (o : Option ℕ) → calls_some o ≡ false → o ≡ none
-no_call none e = refl
-no_call (some g) e = true_not_false e
+no_call : (o : Option ℕ) → calls_some o ≡ false → o ≡ None
+no_call None e = refl
+no_call (Some g) e = true_not_false e
 
 -- A problem that passes its checks has the facts of the fields and of the graph.
 pub record ProblemFacts (p : Problem) : Type 0 where
   pub fields : FieldFacts (numbers_of p)
   pub graph : GraphFacts p.vertex_count (edges_of p) (loops_of p)
 
-pub problem_facts : (p : Problem) → judge_problem p ≡ Accepted → ProblemFacts p
+pub problem_facts : (p : Problem) → judge_problem p ≡ Ok tt → ProblemFacts p
 unfolding judge_problem check_problem
 problem_facts p e =
     let (need, done) = accepted_as (check_problem p) e in
     let g : Good (check_fields (numbers_of p)) p need = good (check_fields (numbers_of p)) p need done in
     record { fields = field_facts (numbers_of p) need g.fields; graph = graph_facts p.vertex_count (edges_of p) (loops_of p) g.graph }
 
-module _ (d : List ℕ) (graphs : judge_graphs d ≡ Accepted) (f : ℕ) (below : f < drawn_functions d) where
+module _ (d : List ℕ) (graphs : judge_graphs d ≡ Ok tt) (f : ℕ) (below : f < drawn_functions d) where
   -- Each drawn graph passes document 01's checks.
-  graph_accepted : judge_problem (graph_of d f) ≡ Accepted
+  graph_accepted : judge_problem (graph_of d f) ≡ Ok tt
   unfolding judge_graphs
   graph_accepted =
       by_bool (exists_below (drawn_functions d) (bad_graph d))
       (λ e. let bad = lowest_passes (drawn_functions d) (bad_graph d) e in placed (judge_problem (graph_of d (first_bad d))) bad (rw e at graphs))
       (λ e. not_refused (judge_problem (graph_of d f)) (none_below (drawn_functions d) (bad_graph d) e f below))
     where
-      placed : {P : Type 0} (v : Verdict) → is_refused v ≡ true → placed_in (first_bad d) v ≡ Accepted → P
-      placed Accepted e q = true_not_false (sym e)
-      placed (Refused r) e q = refused_not_accepted q
+      placed : {P : Type 0} (v : Verdict) → is_refused v ≡ true → placed_in (first_bad d) v ≡ Ok tt → P
+      placed (Ok tt) e q = true_not_false (sym e)
+      placed (Err r) e q = refused_not_accepted q
 
   pub graph_checked : ProblemFacts (graph_of d f)
   graph_checked = problem_facts (graph_of d f) graph_accepted
@@ -104,7 +103,7 @@ module _ (d : List ℕ) (graphs : judge_graphs d ≡ Accepted) (f : ℕ) (below 
     listed_vertex : v < get_or numbers places.vertex_count 0
     listed_vertex = omega (arith, vertices_are d f)
 
-    known : (g : ℕ) → called_by d f v ≡ some g → g < drawn_functions d
+    known : (g : ℕ) → called_by d f v ≡ Some g → g < drawn_functions d
     known g e =
         let called = ap (λ (x : Vertex). x.function) vertex_drawn in
         let first : or_first (called_by d f v) ≡ g = rw e in
@@ -161,7 +160,7 @@ module _ (d : List ℕ) (graphs : judge_graphs d ≡ Accepted) (f : ℕ) (below 
     bound_is : get_or numbers (places.bound + places.loop_width * i) 0 ≡ (drawn_loop d f i).bound
     bound_is = ap (λ (o : Loop). o.bound) loop_drawn
 
-  pub drawn_facts : called_by d f (drawn_count d f - 1) ≡ none → DrawnFacts d f
+  pub drawn_facts : called_by d f (drawn_count d f - 1) ≡ None → DrawnFacts d f
   drawn_facts quiet =
       let first = facts.some_function in
       let size = ap (λ (x : Function). x.size.0) (function_is d f 0 (omega arith)) in
@@ -189,7 +188,7 @@ module _ (d : List ℕ) (graphs : judge_graphs d ≡ Accepted) (f : ℕ) (below 
         quiet = quiet;
       }
 
-module _ (d : List ℕ) (head : judge_head d ≡ Accepted) where
+module _ (d : List ℕ) (head : judge_head d ≡ Ok tt) where
   head_limits : (in_limits rows.scratchpad (drawn_scratchpad d) ≡ true) × (in_limits rows.function_count (drawn_functions d) ≡ true)
   unfolding judge_head
   head_limits =
@@ -204,7 +203,7 @@ module _ (d : List ℕ) (head : judge_head d ≡ Accepted) where
   unfolding limits
   few_functions = (within_limits rows.function_count (drawn_functions d) head_limits.1).1
 
-  pub drawing_facts : judge_graphs d ≡ Accepted → judge_last d ≡ Accepted → DrawingFacts d
+  pub drawing_facts : judge_graphs d ≡ Ok tt → judge_last d ≡ Ok tt → DrawingFacts d
   unfolding limits judge_last
   drawing_facts graphs last =
       let scratchpad = within_limits rows.scratchpad (drawn_scratchpad d) head_limits.0 in

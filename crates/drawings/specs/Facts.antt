@@ -1,6 +1,5 @@
 -- What a drawing satisfies that passed 3, 4, 6 to 9 and 20: every step that goes on with it asks for no more.
-use Rattle.std.specs.Prelude.{ℕ, ◌+◌, ◌-◌, ◌≤◌, ◌<◌, ◌≡◌, List, true}
-use Rattle.std.proofs.Math.Option.{some, none}
+use Rattle.std.specs.Prelude.{ℕ, ◌+◌, ◌-◌, ◌≤◌, ◌<◌, ◌≡◌, List, true, Some, None}
 use Rattle.model.specs.Places as places
 use Rattle.model.specs.Limits.{most_bytes, most_cycles, most_check, most_visits}
 use Rattle.model.specs.File.{edge_before}
@@ -16,7 +15,7 @@ pub record DrawnFacts (d : List ℕ) (f : ℕ) : Type 0 where
   pub vertices : drawn_count d f ≤ places.most_vertices
   pub edges : drawn_edges d f ≤ places.most_edges
   pub loops : drawn_loops d f ≤ places.most_loops
-  pub known : (v g : ℕ) → v < drawn_count d f → called_by d f v ≡ some g → g < drawn_functions d
+  pub known : (v g : ℕ) → v < drawn_count d f → called_by d f v ≡ Some g → g < drawn_functions d
   pub cost : (v : ℕ) → v < drawn_count d f → (drawn_vertex d f v).cost.0 ≤ most_cycles
   pub from : (i : ℕ) → i < drawn_edges d f → (drawn_edge d f i).from < drawn_count d f
   pub to : (i : ℕ) → i < drawn_edges d f → (drawn_edge d f i).to < drawn_count d f
@@ -29,7 +28,7 @@ pub record DrawnFacts (d : List ℕ) (f : ℕ) : Type 0 where
   pub bound_high : (i : ℕ) → i < drawn_loops d f → (drawn_loop d f i).bound ≤ most_visits
   pub headers : (i : ℕ) → i + 1 < drawn_loops d f → (drawn_loop d f i).header < (drawn_loop d f (i + 1)).header
   -- 20: the last vertex calls nothing.
-  pub quiet : called_by d f (drawn_count d f - 1) ≡ none
+  pub quiet : called_by d f (drawn_count d f - 1) ≡ None
 
 pub record DrawingFacts (d : List ℕ) : Type 0 where
   pub scratchpad_low : 1 ≤ drawn_scratchpad d

@@ -1,5 +1,7 @@
 -- Warshall's closure in place: while a function is let through, its own word stays as it is.
 use Prim.Native.Nat.{ℕ, zero, suc, ◌+◌, ◌≤◌, ◌<◌}
+use Rattle.std.specs.Prelude.{Err, Ok}
+use Rattle.model.specs.Refusals.{Verdict}
 use mathlib.Core.Path.{◌≡◌, refl, sym, ap, ◌∙◌}
 use mathlib.Core.List.{List}
 use mathlib.Core.Bool.{Bool, true, false, cond, ◌&&◌, ◌||◌, or-false}
@@ -12,8 +14,6 @@ use lib.Bits.{bit_or}
 use borrow.Author.Count.{below_more}
 use Rattle.model.specs.declared.Refusal.{Refusal}
 use Rattle.model.specs.declared.Refusal.TheVariants.{Recursive}
-use Rattle.model.specs.declared.Verdict.{Verdict}
-use Rattle.model.specs.declared.Verdict.TheVariants.{Accepted, Refused}
 use Rattle.model.specs.Places as places
 use Rattle.model.specs.Graph.{broken}
 use Rattle.model.specs.Drawings.{drawn_functions}
@@ -107,7 +107,7 @@ module _ (leads : ℕ → ℕ → Bool) (n : ℕ) where
 pub broken_alike : (n : ℕ) (test other : ℕ → Bool) (refusal : ℕ → Refusal) → ((f : ℕ) → f < n → test f ≡ other f) → broken n test refusal ≡ broken n other refusal
 broken_alike n test other refusal same =
     let lowest = lowest_alike n test other same in
-    λ i. cond (ltb (lowest i) n) (Refused (refusal (lowest i))) Accepted
+    λ i. cond (ltb (lowest i) n) (Err (refusal (lowest i))) (Ok tt)
 
 -- 18, on words that were closed.
 pub calls_judged : (d : List ℕ) {count : ℕ} {words closed : List ℕ} {v : Verdict} → count ≡ drawn_functions d →

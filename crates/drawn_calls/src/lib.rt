@@ -1,8 +1,7 @@
 // The calls of a drawing: that no graph's last vertex calls, and that no function can reach itself by calls.
 #![tactic(auto)]
 
-ghost use Rattle.std.specs.Prelude.{◌≡◌, ◌&&◌, ◌||◌, ℕ, ◌≤◌, ◌<◌, length};
-ghost use Rattle.std.proofs.Math.Option.{some};
+ghost use Rattle.std.specs.Prelude.{◌≡◌, ◌&&◌, ◌||◌, ℕ, ◌≤◌, ◌<◌, length, Some};
 ghost use Rattle.model.specs.declared.Refusal.TheVariants as refusal;
 ghost use Rattle.model.specs.Places as spot;
 ghost use Rattle.model.specs.Graph.{broken};
@@ -13,34 +12,33 @@ ghost use Rattle.drawings.specs.Facts.{DrawingFacts};
 ghost use Rattle.drawn_calls.specs.Counts.{Countable};
 ghost use Rattle.drawn_calls.specs.Words.{told, Tells, let_through};
 
-use model::{Drawing, Refusal, Verdict, places};
+use model::{Drawing, Refusal, places};
 
 // Then 20, the lowest function whose last vertex calls.
-pub fn judge_last(d: &Drawing) -> Verdict
+pub fn judge_last(d: &Drawing) -> Result<(), Refusal>
     requires { Countable d.now }
     ensures { result ≡ judge_last d.now }
 {
     let count = drawings::function_count(d);
-    let mut f: usize = 0;
-    while f < count {
+    for f in 0..count {
         let last = drawings::vertex_count(d, f) - 1;
         if drawings::calls_some(drawings::callee_at(d, f, last)) {
-            return Verdict::Refused(Refusal::LastCalls(f as u64));
+            return Err(Refusal::LastCalls(f as u64));
         }
-        f += 1;
     }
-    Verdict::Accepted
+    Ok(())
 }
 
 // The functions of a word, and the callee if there is one.
 fn with_callee(word: u32, callee: usize) -> u32
-    requires { (g : ℕ) → callee_of callee ≡ some g → g < spot.most_functions }
+    requires { (g : ℕ) → callee_of callee ≡ Some g → g < spot.most_functions }
     ensures { (g : ℕ) → has result g ≡ (has word g || calls_the (callee_of callee) g) }
 {
     if drawings::calls_some(callee) {
-        return word | (1u32 << callee);
+        word | (1u32 << callee)
+    } else {
+        word
     }
-    word
 }
 
 // The functions that f calls, as a word.
@@ -51,10 +49,8 @@ fn calls_of(d: &Drawing, f: usize) -> u32
 {
     let count = drawings::vertex_count(d, f);
     let mut word: u32 = 0;
-    let mut v: usize = 0;
-    while v < count {
+    for v in 0..count {
         word = with_callee(word, drawings::callee_at(d, f, v));
-        v += 1;
     }
     word
 }
@@ -68,10 +64,8 @@ fn call_words(d: &Drawing) -> Words
 {
     let count = drawings::function_count(d);
     let mut words: Words = [0u32; places::MOST_FUNCTIONS];
-    let mut f: usize = 0;
-    while f < count {
+    for f in 0..count {
         words[f] = calls_of(d, f);
-        f += 1;
     }
     words
 }
@@ -82,9 +76,10 @@ fn through(word: u32, k: usize, onward: u32) -> u32
     ensures { (g : ℕ) → has result g ≡ (has word g || (has word k && has onward g)) }
 {
     if bits::has_bit(word, k) {
-        return word | onward;
+        word | onward
+    } else {
+        word
     }
-    word
 }
 
 // Every function's word, and by way of k the word of k, which stays as it is.
@@ -93,10 +88,8 @@ fn let_through(words: &mut Words, k: usize, count: usize)
     requires fact_2 { length words.old ≡ spot.most_functions }
     ensures { Tells (let_through (told words.old) k) count words.new }
 {
-    let mut f: usize = 0;
-    while f < count {
+    for f in 0..count {
         words[f] = through(words[f], k, words[k]);
-        f += 1;
     }
 }
 
@@ -106,10 +99,8 @@ fn close(words: &mut Words, count: usize)
     requires fact_2 { length words.old ≡ spot.most_functions }
     ensures { Tells (via (told words.old) count) count words.new }
 {
-    let mut k: usize = 0;
-    while k < count {
+    for k in 0..count {
         let_through(words, k, count);
-        k += 1;
     }
 }
 
@@ -122,22 +113,20 @@ fn in_word(words: &Words, f: usize, g: usize) -> bool
 }
 
 // The lowest function that stands in its own word.
-fn judge_words(words: &Words, count: usize) -> Verdict
+fn judge_words(words: &Words, count: usize) -> Result<(), Refusal>
     requires { count ≤ spot.most_functions }
     ensures { result ≡ broken count (λ f. told words.now f f) refusal.Recursive }
 {
-    let mut f: usize = 0;
-    while f < count {
+    for f in 0..count {
         if in_word(words, f, f) {
-            return Verdict::Refused(Refusal::Recursive(f as u64));
+            return Err(Refusal::Recursive(f as u64));
         }
-        f += 1;
     }
-    Verdict::Accepted
+    Ok(())
 }
 
 // Then 18, the lowest function that can reach itself by calls.
-pub fn judge_calls(d: &Drawing) -> Verdict
+pub fn judge_calls(d: &Drawing) -> Result<(), Refusal>
     requires { DrawingFacts d.now }
     ensures { result ≡ judge_calls d.now }
 {

@@ -1,11 +1,11 @@
 -- A drawn graph's used items, stored in file order with their counts into zeros, are the numbers of a problem that is the graph but for spare places.
 use Prim.Native.Nat.{ℕ, ◌<◌, min}
+use Rattle.model.specs.Refusals.{Verdict}
 use mathlib.Core.Path.{◌≡◌, refl, sym, ap, ◌∙◌}
 use mathlib.Core.List.{List, flat_map}
 use native.Mathlib.Omega.{arith}
 use lib.ListN.{length, get_or, set, take, replicate, length-take}
 use lib.Seq.{sets, ext_get_or, get_or-take}
-use Rattle.model.specs.declared.Verdict.{Verdict}
 use Rattle.model.specs.Zero.{zero_function, zero_vertex, zero_edge, zero_loop}
 use Rattle.model.specs.Places as places
 use Rattle.model.specs.Numbers.{table, in_places, function_numbers, vertex_numbers, edge_numbers, loop_numbers, numbers_in, edition_of, problem_of, Sized}
@@ -36,10 +36,6 @@ take_used count n spare at =
     ∙ get_or-table n (λ j. get_or (table (min count n) at) j spare) i spare (omega arith)
     ∙ get_or-table (min count n) at i spare few
     ∙ sym (get_or-take count (table n at) i spare below ∙ get_or-table n at i spare (omega arith)))
-
--- How many are used, told from the count that was read, is so many of the drawn count.
-of_drawn : (most : ℕ) {used count drawn : ℕ} → used ≡ min count most → count ≡ drawn → used ≡ min drawn most
-of_drawn most few is = few ∙ ap (λ (n : ℕ). min n most) is
 
 module _ (d : List ℕ) (f : ℕ) where
   used_same : SameProblem (used_graph d f) (graph_of d f)
@@ -77,25 +73,25 @@ module _ (d : List ℕ) (f : ℕ) where
         loops = length-table places.most_loops _;
       }
 
-  module _ {scratchpad functions vertices edges loops used₁ used₂ used₃ used₄ : ℕ} {l₀ l₁ l₂ l₃ l₄ l₅ : List ℕ} where
+  module _ {scratchpad functions vertices edges loops : ℕ} {l₀ l₁ l₂ l₃ l₄ l₅ : List ℕ} where
     pub graph_filled :
         l₀ ≡ replicate places.end 0 →
         scratchpad ≡ drawn_scratchpad d →
-        functions ≡ drawn_functions d → used₁ ≡ min functions places.most_functions →
-        vertices ≡ drawn_count d f → used₂ ≡ min vertices places.most_vertices →
-        edges ≡ drawn_edges d f → used₃ ≡ min edges places.most_edges →
-        loops ≡ drawn_loops d f → used₄ ≡ min loops places.most_loops →
-        Stored function_numbers used₁ places.size (table used₁ (λ i. drawn_function d f)) (set (set l₀ places.scratchpad scratchpad) places.function_count functions) l₁ →
-        Stored vertex_numbers used₂ places.function (table used₂ (drawn_vertex d f)) (set l₁ places.vertex_count vertices) l₂ →
-        Stored edge_numbers used₃ places.from (table used₃ (drawn_edge d f)) (set l₂ places.edge_count edges) l₃ →
-        Stored loop_numbers used₄ places.header (table used₄ (drawn_loop d f)) (set l₃ places.loop_count loops) l₄ →
+        functions ≡ drawn_functions d →
+        vertices ≡ drawn_count d f →
+        edges ≡ drawn_edges d f →
+        loops ≡ drawn_loops d f →
+        Stored function_numbers (min functions places.most_functions) places.size (table (min functions places.most_functions) (λ i. drawn_function d f)) (set (set l₀ places.scratchpad scratchpad) places.function_count functions) l₁ →
+        Stored vertex_numbers (min vertices places.most_vertices) places.function (table (min vertices places.most_vertices) (drawn_vertex d f)) (set l₁ places.vertex_count vertices) l₂ →
+        Stored edge_numbers (min edges places.most_edges) places.from (table (min edges places.most_edges) (drawn_edge d f)) (set l₂ places.edge_count edges) l₃ →
+        Stored loop_numbers (min loops places.most_loops) places.header (table (min loops places.most_loops) (drawn_loop d f)) (set l₃ places.loop_count loops) l₄ →
         l₅ ≡ set l₄ places.edition (edition_of (problem_of l₄)) → Numbered (used_graph d f) l₅
     unfolding used_graph
-    graph_filled zeros pad functions_are few₁ vertices_are few₂ edges_are few₃ loops_are few₄ first second third fourth put =
-        let fs = table used₁ (λ i. drawn_function d f) in
-        let vs = table used₂ (drawn_vertex d f) in
-        let es = table used₃ (drawn_edge d f) in
-        let ls = table used₄ (drawn_loop d f) in
+    graph_filled zeros pad functions_are vertices_are edges_are loops_are first second third fourth put =
+        let fs = table (min functions places.most_functions) (λ i. drawn_function d f) in
+        let vs = table (min vertices places.most_vertices) (drawn_vertex d f) in
+        let es = table (min edges places.most_edges) (drawn_edge d f) in
+        let ls = table (min loops places.most_loops) (drawn_loop d f) in
         let is : l₄ ≡ numbers_in 0 (in_parts scratchpad functions fs vertices vs edges es loops ls) =
         fourth.is
         ∙ ap (λ (l : List ℕ). sets (set l places.loop_count loops) places.header (flat_map loop_numbers ls))
@@ -106,15 +102,15 @@ module _ (d : List ℕ) (f : ℕ) where
         (first.is
         ∙ ap (λ (l : List ℕ). sets (set (set l places.scratchpad scratchpad) places.function_count functions) places.size (flat_map function_numbers fs)) (zeros ∙ no_edition))))
         ∙ stored_parts 0 scratchpad functions fs vertices vs edges es loops ls
-        (omega (arith, length-table used₁ (λ i. drawn_function d f))) (omega (arith, length-table used₂ (drawn_vertex d f)))
-        (omega (arith, length-table used₃ (drawn_edge d f))) (omega (arith, length-table used₄ (drawn_loop d f))) in
+        (omega (arith, length-table (min functions places.most_functions) (λ i. drawn_function d f))) (omega (arith, length-table (min vertices places.most_vertices) (drawn_vertex d f)))
+        (omega (arith, length-table (min edges places.most_edges) (drawn_edge d f))) (omega (arith, length-table (min loops places.most_loops) (drawn_loop d f))) in
         edition_put (used_graph d f) used_sized 0 l₄ l₅
         (is
         ∙ (λ i. numbers_in 0 (in_parts (pad i)
-        (functions_are i) (table (of_drawn places.most_functions few₁ functions_are i) (λ k. drawn_function d f))
-        (vertices_are i) (table (of_drawn places.most_vertices few₂ vertices_are i) (drawn_vertex d f))
-        (edges_are i) (table (of_drawn places.most_edges few₃ edges_are i) (drawn_edge d f))
-        (loops_are i) (table (of_drawn places.most_loops few₄ loops_are i) (drawn_loop d f)))))
+        (functions_are i) (table (min (functions_are i) places.most_functions) (λ k. drawn_function d f))
+        (vertices_are i) (table (min (vertices_are i) places.most_vertices) (drawn_vertex d f))
+        (edges_are i) (table (min (edges_are i) places.most_edges) (drawn_edge d f))
+        (loops_are i) (table (min (loops_are i) places.most_loops) (drawn_loop d f)))))
         put
 
   -- So the checks say of the one what they say of the other.

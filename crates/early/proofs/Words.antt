@@ -1,4 +1,8 @@
 -- Words of early vertices: what members they have, which vertices they tell, and how they are gathered.
+use Rattle.model.specs.Operations.{Checked}
+use Rattle.model.specs.Numbers.{problem_of}
+use Rattle.model.specs.Places as places
+use Rattle.lookup.proofs.Places.{facts, vertex_small, function_small}
 use Prim.Native.Nat.{ℕ, ◌+◌, ◌^◌, ◌≤◌, ◌<◌}
 use mathlib.Core.Path.{◌≡◌, refl, sym, subst, ◌∙◌}
 use mathlib.Core.List.{List}
@@ -18,6 +22,11 @@ use Rattle.bits.specs.Tests.{has}
 use Rattle.bits.proofs.Bits.{none_in_zero, or_left, or_right, or_only, pow_member, pow_only}
 use Rattle.charges.specs.Tests.{flagged}
 use Rattle.early.specs.Early.{fresh_test, early_by, early_word, EarlyTable, early_in, EarlyApart, Gathered}
+
+-- A vertex and its function have their places in the tables.
+pub in_tables : (l : List ℕ) → Checked l → (v : ℕ) → v < (problem_of l).vertex_count → (f : ℕ) → f ≡ function_of (problem_of l) v →
+    (v < places.most_vertices) × (f < places.most_functions)
+in_tables l checked v below f is = let ok = facts _ checked in (vertex_small _ ok _ below, function_small _ ok _ below _ is)
 
 -- The word of a vertex by its flag and by what its word of first reach has.
 module _ (p : Problem) (flags fresh : List ℕ) (v : ℕ) where

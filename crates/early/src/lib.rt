@@ -9,7 +9,7 @@ ghost use Rattle.model.specs.Places.{most_vertices};
 ghost use Rattle.bits.specs.Tests.{has};
 ghost use Rattle.early.specs.Early.{early_by, early_word, EarlyTable, Gathered, first_load, LoadedFirst};
 
-use model::{Cycles, Numbers, places, units};
+use model::{Cycles, Numbers, places};
 
 // A word for each vertex: its function as the only member, or none.
 pub type EarlyWords = [u32; places::MOST_VERTICES];
@@ -36,6 +36,7 @@ fn early_at(
 }
 
 // The functions of the early vertices.
+#[tactic(auto, using(lookup::proofs::Places::facts, lookup::proofs::Places::few_vertices))]
 pub fn early_words(
     l: &Numbers,
     flags: &[u8; places::MOST_VERTICES],
@@ -46,10 +47,8 @@ pub fn early_words(
 {
     let count = lookup::vertex_count(l);
     let mut early = [0u32; places::MOST_VERTICES];
-    let mut v: usize = 0;
-    while v < count {
+    for v in 0..count {
         early[v] = early_at(l, flags, fresh, v);
-        v += 1;
     }
     early
 }
@@ -61,15 +60,14 @@ pub fn functions_in(early: &EarlyWords, first: usize, end: usize) -> u32
     ensures { Gathered early.now first end result }
 {
     let mut functions: u32 = 0;
-    let mut v = first;
-    while v < end {
+    for v in first..end {
         functions |= early[v];
-        v += 1;
     }
     functions
 }
 
 // What a function adds to the loads of some: its load cost where it is one of them.
+#[tactic(auto, using(lookup::proofs::Places::facts, lookup::proofs::Places::few_functions))]
 fn first_load(l: &Numbers, functions: u32, f: usize) -> Cycles
     requires fact_1 { Checked l.now }
     requires fact_2 { f < (problem_of l.now).function_count }
@@ -88,10 +86,8 @@ pub fn first_loads(l: &Numbers, functions: u32) -> Cycles
 {
     let count = lookup::function_count(l);
     let mut loads = Cycles(0);
-    let mut f: usize = 0;
-    while f < count {
-        loads = units::sum_of_cycles(loads, first_load(l, functions, f));
-        f += 1;
+    for f in 0..count {
+        loads = loads + first_load(l, functions, f);
     }
     loads
 }

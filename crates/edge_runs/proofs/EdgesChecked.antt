@@ -1,6 +1,6 @@
 -- A run of edges is judged: where an edge stands between two others, the steps of its two numbers come to one turn of the run.
 use Prim.Native.Nat.{ℕ, zero, suc, ◌+◌, ◌*◌, ◌-◌, ◌≤◌, ◌<◌}
-use mathlib.Core.Path.{◌≡◌, refl, sym, ◌∙◌}
+use mathlib.Core.Path.{◌≡◌, refl, sym, subst, ◌∙◌}
 use mathlib.Core.List.{List}
 use native.Mathlib.Omega.{arith}
 use native.Mathlib.Numerals.{unary_clauses}
@@ -14,8 +14,8 @@ use Rattle.fields.specs.Valid.{Valid, field}
 use Rattle.fields.proofs.Steps.{ranged_later}
 use Rattle.fields.proofs.OneField.{Passed, check_on}
 use Rattle.fields.proofs.Editions.{plainly_sized}
-use Rattle.edge_runs.specs.Edges.{second_edge, Opens, EdgesChecked}
-use Rattle.edge_runs.proofs.Edges.{Between, from_ranged, to_ranged, from_ascends, from_next, to_next, ordered, opened}
+use Rattle.edge_runs.specs.Edges.{Opens, Follows, EdgesChecked}
+use Rattle.edge_runs.proofs.Edges.{Between, between, from_ranged, to_ranged, from_ascends, from_next, to_next, ordered, edge_room_lem, opened}
 use Rattle.model.specs.Places as places
 use Rattle.model.specs.Rows as rows
 
@@ -59,37 +59,41 @@ module _ (l : List ℕ) (q left : ℕ) where
         let half_way = ranged_later v (omega arith) l from from_passed.in_range_lem (sym (from_next l q left from)) in
         (ranged_later half_way.valid (omega arith) l to to_passed.in_range_lem (sym (to_next l (q + 1) left to e.more))).valid
 
--- A run under way: k edges are judged.
-pub record Running (l : List ℕ) (vertices first left k : ℕ) : Type 0 where
-  pub late : second_edge ≤ first
-  pub few : vertices ≤ places.most_vertices
+-- A run under way: k edges are judged, and there is room for one more.
+pub record Running (l : List ℕ) (vertices : ℕ) (c : Field) (k : ℕ) : Type 0 where
+  pub opens : Opens c vertices
   pub here : vertices ≡ get_or l places.vertex_count 0
-  pub done : EdgesChecked (field rows.from first left) l k
+  pub room : c.place + places.edge_width * k + edge_span < places.end
+  pub done : EdgesChecked (field rows.from c.place c.left) l k
 
 pub none_checked : {c : Field} (l : List ℕ) → Valid c → EdgesChecked c l 0
 none_checked l v = record { few = omega arith; valid = simp unary_clauses v; same = λ n at start. simp unary_clauses }
 
-pub started : {c : Field} {l : List ℕ} {vertices : ℕ} → Valid c → Opens c vertices → vertices ≡ get_or l places.vertex_count 0 → Running l vertices c.place c.left 0
-started {c} {l} v o here = record { late = o.late; few = o.few; here = here; done = rw (opened o) at (none_checked l v) }
+running : {l : List ℕ} {vertices : ℕ} {c : Field} {k : ℕ} → Opens c vertices → vertices ≡ get_or l places.vertex_count 0 → EdgesChecked (field rows.from c.place c.left) l k →
+    Running l vertices c k
+running o here done = record { opens = o; here = here; room = edge_room_lem _ _ done.valid; done = done }
 
-pub ended : {l : List ℕ} {vertices : ℕ} {c : Field} {k : ℕ} → Opens c vertices → Running l vertices c.place c.left k → EdgesChecked c l k
-ended o r = rw (opened o) r.done
+pub started : {c : Field} {l : List ℕ} {vertices : ℕ} → Valid c → Opens c vertices → vertices ≡ get_or l places.vertex_count 0 → Running l vertices c 0
+started {c} {l} v o here = running o here (rw (opened o) at (none_checked l v))
 
-pub turn : {l : List ℕ} {vertices first left k : ℕ} → Running l vertices first left k → GoodEdge l (first + places.edge_width * k) (left - k) → Running l vertices first left (k + 1)
-turn {l} {vertices} {first} {left} {k} r e =
-    let q : ℕ = first + places.edge_width * k in
+pub ended : {l : List ℕ} {vertices : ℕ} {c : Field} {k : ℕ} → Running l vertices c k → EdgesChecked c l k
+ended r = rw (opened r.opens) r.done
+
+pub all_checked : {l : List ℕ} {vertices : ℕ} {c : Field} {k : ℕ} → Running l vertices c k → c.left ≤ k → EdgesChecked c l c.left
+all_checked {l} {vertices} {c} {k} r done = let all : c.left ≡ k = omega (arith, r.done.few) in subst (EdgesChecked c l) (sym all) (ended r)
+
+pub turn : {l : List ℕ} {vertices : ℕ} {c : Field} {k : ℕ} → Running l vertices c k → k < c.left →
+    Follows l (c.place + places.edge_width * k) vertices (get_or l (c.place + places.edge_width * k) 0) (get_or l (c.place + places.edge_width * k + edge_span) 0) → Running l vertices c (k + 1)
+turn {l} {vertices} {c} {k} r more follows =
+    let q : ℕ = c.place + places.edge_width * k in
+    let e : GoodEdge l q (c.left - k) = between (omega (arith, r.opens.late)) (omega arith) r.here r.opens.few follows in
     let i : (at : ℕ) → at + places.edge_width * (k + 1) ≡ at + places.edge_width * k + 1 + 1 = λ at. omega arith in
-    let j : first + places.edge_width * (k + 1) ≡ q + 1 + 1 = omega arith in
-    let h : left - (k + 1) ≡ left - k - 1 = omega arith in
-    let more : (n : ℕ) → n + places.edge_width * (k + 1) ≡ suc (suc n) + places.edge_width * k = λ n. omega arith in
-    record {
-      late = r.late;
-      few = r.few;
-      here = r.here;
-      done = record {
-        few = omega (arith, e.more);
-        valid = rw (j, h) (two_valid l q (left - k) e r.done.valid);
-        same = λ n at start. rw (more n, i at, j, h)
-            (r.done.same (suc (suc n)) at start ∙ two_checked l q (left - k) e n (at + places.edge_width * k) start ∙ start_free n _ _ start _ _ _);
-      };
-    }
+    let j : c.place + places.edge_width * (k + 1) ≡ q + 1 + 1 = omega arith in
+    let h : c.left - (k + 1) ≡ c.left - k - 1 = omega arith in
+    let later : (n : ℕ) → n + places.edge_width * (k + 1) ≡ suc (suc n) + places.edge_width * k = λ n. omega arith in
+    running r.opens r.here (record {
+      few = omega (arith, more);
+      valid = rw (j, h) (two_valid l q (c.left - k) e r.done.valid);
+      same = λ n at start. rw (later n, i at, j, h)
+          (r.done.same (suc (suc n)) at start ∙ two_checked l q (c.left - k) e n (at + places.edge_width * k) start ∙ start_free n _ _ start _ _ _);
+    })

@@ -1,6 +1,7 @@
 -- Edges are read: the steps of the two numbers of an edge between two others come to one turn of a run, however they are spelt.
 use Prim.Native.Nat.{ℕ, suc, ◌+◌, ◌*◌, ◌-◌, ◌≤◌, ◌<◌}
-use mathlib.Core.Path.{◌≡◌, refl, sym, ap, ◌∙◌}
+use Rattle.std.specs.Prelude.{Ok}
+use mathlib.Core.Path.{◌≡◌, refl, sym, ap, subst, ◌∙◌}
 use mathlib.Core.List.{List}
 use mathlib.Core.Bool.{true}
 use native.Mathlib.Omega.{arith}
@@ -8,7 +9,6 @@ use native.Mathlib.Numerals.{unary_clauses}
 use lib.ListN.{length, get_or, set, length-set}
 use lib.Seq.{get_or-set_same, get_or-set_other}
 use Rattle.model.specs.declared.Field.{Field}
-use Rattle.model.specs.declared.Number.TheVariants as number
 use Rattle.model.specs.Spelling.{read_number}
 use Rattle.model.specs.Table.{kinds, kind, first_kind}
 use Rattle.model.specs.File.{number_count, edition_in, edge_span, ascends, item_start, in_range, read_from}
@@ -18,7 +18,7 @@ use Rattle.fields.specs.Valid.{Valid, field}
 use Rattle.fields.proofs.Steps.{ranged_later}
 use Rattle.fields.proofs.OneField.{read_on}
 use Rattle.fields.proofs.Editions.{plainly_read}
-use Rattle.edge_runs.specs.Edges.{second_edge, Opens, Follows, Readable, PairsRead, AtItem, ItemTaken, EdgesRead}
+use Rattle.edge_runs.specs.Edges.{Opens, Follows, Readable, PairsRead, AtItem, ItemTaken, EdgesRead}
 use Rattle.edge_runs.proofs.Items.{item_read, none_read, two_runs, one_taken}
 use Rattle.edge_runs.proofs.Edges.{Between, between, from_ranged, to_ranged, from_ascends, from_next, to_next, ordered, edge_room_lem, opened}
 use Rattle.model.specs.Places as places
@@ -32,10 +32,10 @@ from_starts = refl
 pub record EdgeFound (s l : List ℕ) (pos q left : ℕ) : Type 0 where
   pub from : ℕ
   pub middle : ℕ
-  pub from_read : read_number s pos ≡ number.Value from middle
+  pub from_read : read_number s pos ≡ Ok (from, middle)
   pub to : ℕ
   pub next : ℕ
-  pub to_read : read_number s middle ≡ number.Value to next
+  pub to_read : read_number s middle ≡ Ok (to, next)
   pub room : q + edge_span < length l
   pub between : Between l q left from to
 
@@ -96,38 +96,43 @@ byte_edge s l pos q left room bytes between =
       between = between;
     }
 
--- A run under way: k edges are read, and the numbers are m.
-pub record Running (s l : List ℕ) (at vertices first left : ℕ) (m : List ℕ) (k : ℕ) : Type 0 where
-  pub late : second_edge ≤ first
-  pub few : vertices ≤ places.most_vertices
+-- A run under way: k edges are read, the numbers are m, and there is room for one more.
+pub record Running (s l : List ℕ) (at vertices : ℕ) (c : Field) (m : List ℕ) (k : ℕ) : Type 0 where
+  pub opens : Opens c vertices
   pub here : vertices ≡ get_or m places.vertex_count 0
-  pub done : EdgesRead s at (field rows.from first left) l m k
+  pub room : c.place + places.edge_width * k + edge_span < places.end
+  pub done : EdgesRead s at (field rows.from c.place c.left) l m k
 
 pub no_edge_read : {s : List ℕ} {at : ℕ} {c : Field} {l : List ℕ} → Readable s at c l → EdgesRead s at c l l 0
 no_edge_read r = simp unary_clauses (none_read r)
 
+running : {s l : List ℕ} {at vertices : ℕ} {c : Field} {m : List ℕ} {k : ℕ} → Opens c vertices → vertices ≡ get_or m places.vertex_count 0 →
+    EdgesRead s at (field rows.from c.place c.left) l m k → Running s l at vertices c m k
+running o here done = record { opens = o; here = here; room = edge_room_lem _ _ done.valid; done = done }
+
 pub started : {s : List ℕ} {at : ℕ} {c : Field} {l : List ℕ} {vertices : ℕ} → Readable s at c l → Opens c vertices → vertices ≡ get_or l places.vertex_count 0 →
-    Running s l at vertices c.place c.left l 0
-started {s} {at} {c} {l} r o here = record { late = o.late; few = o.few; here = here; done = rw (opened o) at (no_edge_read r) }
+    Running s l at vertices c l 0
+started {s} {at} {c} {l} r o here = running o here (rw (opened o) at (no_edge_read r))
 
-pub ended : {s l : List ℕ} {at vertices : ℕ} {c : Field} {m : List ℕ} {k : ℕ} → Opens c vertices → Running s l at vertices c.place c.left m k → EdgesRead s at c l m k
-ended o r = rw (opened o) r.done
+module _ {s l : List ℕ} {at vertices : ℕ} {c : Field} {m : List ℕ} {k : ℕ} (r : Running s l at vertices c m k) where
+  pub ended : EdgesRead s at c l m k
+  ended = rw (opened r.opens) r.done
 
-module _ {s l : List ℕ} {at vertices first left : ℕ} {m : List ℕ} {k : ℕ} (r : Running s l at vertices first left m k)
-    (bytes : at + places.edge_width * k + edge_span < length s)
-    (e : Between m (first + places.edge_width * k) (left - k) (get_or s (at + places.edge_width * k) 0) (get_or s (at + places.edge_width * k + edge_span) 0)) where
-  abbrev found : EdgeFound s m (at + places.edge_width * k) (first + places.edge_width * k) (left - k)
-  found = byte_edge s m _ _ _ (omega (arith, edge_room_lem _ _ r.done.valid, r.done.long)) bytes e
+  pub all_read : c.left ≤ k → EdgesRead s at c l m c.left
+  all_read done = let all : c.left ≡ k = omega (arith, r.done.few) in subst (EdgesRead s at c l m) (sym all) ended
 
-  pub turn : Running s l at vertices first left (whole found) (k + 1)
-  turn =
-      let end : at + places.edge_width * (k + 1) ≡ at + places.edge_width * k + edge_span + 1 = omega arith in
-      record {
-        late = r.late;
-        few = r.few;
-        here = r.here ∙ sym (kept found places.vertex_count (omega (arith, r.late)));
-        done = rw end (two_runs r.done (edge_read found r.done.valid r.done.long));
-      }
+  module _ (bytes : at + places.edge_width * k + edge_span < length s) (more : k < c.left)
+      (follows : Follows m (c.place + places.edge_width * k) vertices (get_or s (at + places.edge_width * k) 0) (get_or s (at + places.edge_width * k + edge_span) 0)) where
+    abbrev found : EdgeFound s m (at + places.edge_width * k) (c.place + places.edge_width * k) (c.left - k)
+    found =
+        byte_edge s m _ _ _ (omega (arith, r.room, r.done.long)) bytes
+        (between (omega (arith, r.opens.late)) (omega (arith, more)) r.here r.opens.few follows)
+
+    pub turn : Running s l at vertices c (whole found) (k + 1)
+    turn =
+        let end : at + places.edge_width * (k + 1) ≡ at + places.edge_width * k + edge_span + 1 = omega arith in
+        running r.opens (r.here ∙ sym (kept found places.vertex_count (omega (arith, r.opens.late))))
+        (rw end (two_runs r.done (edge_read found r.done.valid r.done.long)))
 
 -- The edge at a field where a run may start.
 module _ {s : List ℕ} {at : ℕ} {c : Field} {l : List ℕ} {vertices : ℕ} (r : AtItem s at c l) (o : Opens c vertices) where
@@ -137,8 +142,8 @@ module _ {s : List ℕ} {at : ℕ} {c : Field} {l : List ℕ} {vertices : ℕ} (
   pub edge_fits : c.place + edge_span < places.end
   edge_fits = edge_room_lem c.place c.left here_valid
 
-  module _ (here : vertices ≡ get_or l places.vertex_count 0) (from middle to next : ℕ) (from_read : read_number s at ≡ number.Value from middle)
-      (to_read : read_number s middle ≡ number.Value to next) (follows : Follows l c.place vertices from to) where
+  module _ (here : vertices ≡ get_or l places.vertex_count 0) (from middle to next : ℕ) (from_read : read_number s at ≡ Ok (from, middle))
+      (to_read : read_number s middle ≡ Ok (to, next)) (follows : Follows l c.place vertices from to) where
     abbrev spelt : EdgeFound s l at c.place c.left
     spelt =
         record {

@@ -1,6 +1,6 @@
 -- Items of two numbers: one is read by the steps of both its numbers, and runs of them behind one another are one run.
 use Prim.Native.Nat.{ℕ, zero, suc, ◌+◌, ◌*◌, ◌-◌, ◌≤◌, ◌<◌}
-use mathlib.Core.Path.{◌≡◌, refl, ◌∙◌}
+use mathlib.Core.Path.{◌≡◌, refl, subst, ◌∙◌}
 use mathlib.Core.List.{List}
 use native.Mathlib.Omega.{arith}
 use native.Mathlib.Numerals.{unary_clauses}
@@ -53,6 +53,10 @@ two_runs {c = c} {k = k} {j = j} run more =
           let count : n + places.edge_width * (k + j) ≡ n + places.edge_width * j + places.edge_width * k = omega arith in
           rw (count, place, left) (run.same (n + places.edge_width * j) start ∙ more.same n start);
     }
+
+-- The items that a list has are all that a run may have.
+pub all_read : {s : List ℕ} {at : ℕ} {c : Field} {l m : List ℕ} {k end : ℕ} → PairsRead s at c l m k end → c.left ≤ k → PairsRead s at c l m c.left end
+all_read {s} {at} {c} {l} {m} {k} {end} run done = let all : k ≡ c.left = omega (arith, run.few) in subst (λ (n : ℕ). PairsRead s at c l m n end) all run
 
 -- What reading one item answers: nothing is read, or the item ends behind its first byte.
 pub none_taken : {s : List ℕ} {at : ℕ} {c : Field} {l : List ℕ} → ItemTaken s at c l l 0

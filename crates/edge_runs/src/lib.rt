@@ -10,7 +10,7 @@ ghost use Rattle.edge_runs.specs.Edges.{past_pairs, Opens, second_edge, Follows,
 
 use field_rules::EDGE_SPAN;
 use model::places::EDGE_WIDTH;
-use model::{Field, Number, Numbers, places, rows};
+use model::{Field, Numbers, places, rows};
 
 // The place where the second edge starts.
 const SECOND: usize = places::FROM + EDGE_WIDTH;
@@ -23,9 +23,9 @@ pub fn past_pairs(c: Field, run: usize) -> Field
     ensures { result ≡ past_pairs c run }
 {
     Field {
-        row: c.row,
         place: c.place + EDGE_WIDTH * run,
         left: c.left - run,
+        ..c
     }
 }
 
@@ -33,13 +33,7 @@ pub fn past_pairs(c: Field, run: usize) -> Field
 fn opens(field: Field, vertices: u64) -> bool
     ensures { result ≡ true → Opens field vertices }
 {
-    if field.row != rows::FROM {
-        return false;
-    }
-    if field.place < SECOND {
-        return false;
-    }
-    vertices <= MOST_VERTICES
+    field.row == rows::FROM && SECOND <= field.place && vertices <= MOST_VERTICES
 }
 
 // Whether an edge may stand at a place: behind the edge before it, both its numbers vertices.
@@ -47,14 +41,10 @@ fn follows(numbers: &Numbers, place: usize, vertices: u64, from: u64, to: u64) -
     requires { (second_edge ≤ place) × (place < number_count) }
     ensures { result ≡ true → Follows numbers.now place vertices from to }
 {
-    if vertices <= from {
-        return false;
-    }
-    if vertices <= to {
-        return false;
-    }
     let before = place - EDGE_WIDTH;
-    field_rules::edge_before(numbers[before], numbers[before + EDGE_SPAN], from, to)
+    from < vertices
+        && to < vertices
+        && field_rules::edge_before(numbers[before], numbers[before + EDGE_SPAN], from, to)
 }
 
 // Reads a run of edges that are a byte a number from the field on, and answers how many it has.
@@ -63,15 +53,12 @@ pub fn read_edges(bytes: &[u8], numbers: &mut Numbers, at: usize, field: Field) 
     ensures { EdgesRead bytes.now at field numbers.old numbers.new result }
 {
     let vertices = numbers[places::VERTEX_COUNT];
-    let first = field.place;
-    let left = field.left;
-    let mut run: usize = 0;
     if !opens(field, vertices) {
-        return run;
+        return 0;
     }
-    while run < left {
+    for run in 0..field.left {
         let pos = at + EDGE_WIDTH * run;
-        let place = first + EDGE_WIDTH * run;
+        let place = field.place + EDGE_WIDTH * run;
         if bytes.len() < pos + EDGE_WIDTH {
             return run;
         }
@@ -82,12 +69,12 @@ pub fn read_edges(bytes: &[u8], numbers: &mut Numbers, at: usize, field: Field) 
         }
         numbers[place] = from;
         numbers[place + EDGE_SPAN] = to;
-        run += 1;
     }
-    run
+    field.left
 }
 
 // Reads the edge at a field that others follow, however its numbers are spelt, and answers the position behind it; or answers 0 and reads nothing.
+#[tactic(auto, using(crate::proofs::EdgesRead::edge_fits, crate::proofs::Items::none_taken))]
 pub fn read_edge(bytes: &[u8], numbers: &mut Numbers, at: usize, field: Field) -> usize
     requires { AtItem bytes.now at field numbers.old }
     ensures { ItemTaken bytes.now at field numbers.old numbers.new result }
@@ -97,11 +84,11 @@ pub fn read_edge(bytes: &[u8], numbers: &mut Numbers, at: usize, field: Field) -
         return 0;
     }
     let first = spelling::read_number(bytes, at);
-    let Number::Value(from, middle) = first else {
+    let Ok((from, middle)) = first else {
         return 0;
     };
     let second = spelling::read_number(bytes, middle);
-    let Number::Value(to, next) = second else {
+    let Ok((to, next)) = second else {
         return 0;
     };
     let place = field.place;
@@ -119,20 +106,16 @@ pub fn check_edges(numbers: &Numbers, field: Field) -> usize
     ensures { EdgesChecked field numbers.now result }
 {
     let vertices = numbers[places::VERTEX_COUNT];
-    let first = field.place;
-    let left = field.left;
-    let mut run: usize = 0;
     if !opens(field, vertices) {
-        return run;
+        return 0;
     }
-    while run < left {
-        let place = first + EDGE_WIDTH * run;
+    for run in 0..field.left {
+        let place = field.place + EDGE_WIDTH * run;
         let from = numbers[place];
         let to = numbers[place + EDGE_SPAN];
         if !follows(numbers, place, vertices, from, to) {
             return run;
         }
-        run += 1;
     }
-    run
+    field.left
 }

@@ -1,5 +1,6 @@
 -- Laws of the words of rules 8 and 9: the marks of the loops' ends tell which loops are around a vertex, and these words tell wrong edges and returns.
 use Prim.Native.Nat.{ℕ, zero, suc, ◌+◌, ◌^◌, ◌≤◌, ◌<◌}
+use Rattle.std.specs.Prelude.{Result, Err, Ok}
 use mathlib.Core.Path.{◌≡◌, refl, sym, ap, ◌∙◌}
 use mathlib.Core.List.{List}
 use mathlib.Core.Bool.{Bool, true, false, not, ◌&&◌, ◌||◌, and-false, and-true, and_comm, or-false, not-not}
@@ -12,19 +13,22 @@ use lib.Dec.{eqb, ltb, leb}
 use borrow.Author.Tests.{eq-eqb, ne_eqb, eqb-true, eqb-false, lt-ltb, le-ltb, le-leb, lt-leb, ltb-true}
 use Rattle.model.specs.declared.Edge.{Edge}
 use Rattle.model.specs.declared.Loop.{Loop}
+use Rattle.model.specs.declared.Refusal.{Refusal}
 use Rattle.model.specs.declared.Refusal.TheVariants.{WrongEdge}
-use Rattle.model.specs.declared.Verdict.TheVariants.{Accepted, Refused}
 use Rattle.model.specs.Search.{lowest_below, exists_below}
 use Rattle.model.specs.Graph.{edge, loop, holds, enters_past_header, returns_to, wrong_edge, no_return, broken}
 use Rattle.model.proofs.Cases.{by_bool, by_order, and_left, and_right}
+use Rattle.model.proofs.Answers.{refused_not_done}
 use Rattle.model.proofs.Search.{Searched, hit, exists_hit, exists_none, exists_at, exists_first, exists_nowhere, exists_more}
 use Rattle.bits.specs.Tests.{has}
 use Rattle.bits.proofs.Tests.{has_or, has_and, has_less, has_zero, has_pow, some_bit}
+use Rattle.facts.specs.Fields.{FieldFacts}
+use Rattle.lookup.specs.Lists.{vertices_in, edges_in, loops_in}
 use Rattle.lookup.specs.Plain.{edge_of}
+use Rattle.lookup.proofs.Places.{from_below, to_below}
 use Rattle.ranges.specs.Ranges.{Ranged}
 use Rattle.ranges.specs.Marks.{mark_count, gain, mark_loop, marks_of}
 use Rattle.edges.specs.Words.{held_over, around_at, AroundTo, BitsTell, Headed, Around, wrong_by, returned_by, edges_answer, Returned}
-use Rattle.edges.specs.declared.EdgesAnswer.TheVariants.{Wrong, Returns}
 use Rattle.model.specs.Places as places
 
 -- A word gains a bit, and the others stay.
@@ -259,10 +263,17 @@ module _ {n : ℕ} {ls : List Loop} {around marks : List ℕ} (a : Around n ls a
         not-not (eqb (bit_and heads out) 0),
       )
 
-  pub wrong_edge_lem : (e : Edge) → from ≡ e.from → to ≡ e.to → {r : Bool} → r ≡ wrong_by into out heads from to → r ≡ wrong_edge ls e
+  wrong_edge_lem : (e : Edge) → from ≡ e.from → to ≡ e.to → {r : Bool} → r ≡ wrong_by into out heads from to → r ≡ wrong_edge ls e
   wrong_edge_lem e q p is =
       let numbers : wrong_edge ls (edge_of from to) ≡ wrong_edge ls e = rw (q, p) in
       is ∙ (told_wrong ∙ numbers)
+
+-- What the test by the words answers of edge i.
+pub wrong_told : {l around marks : List ℕ} → FieldFacts l → Around (vertices_in l) (loops_in l) around → Headed (vertices_in l) (loops_in l) marks →
+    (i : ℕ) → i < length (edges_in l) → (from to : ℕ) → from ≡ (edge (edges_in l) i).from → to ≡ (edge (edges_in l) i).to →
+    {r b : Bool} → r ≡ wrong_by (get_or around to 0) (get_or around from 0) (get_or marks to 0) from to → r ≡ b → wrong_edge (loops_in l) (edge (edges_in l) i) ≡ b
+wrong_told {l} ok a h i here from to f t is answer =
+    sym (wrong_edge_lem a h from to (omega (arith, f, from_below l ok i here)) (omega (arith, t, to_below l ok i here)) (edge (edges_in l) i) f t is) ∙ answer
 
 module _ (es : List Edge) (around marks : List ℕ) where
   pub returned_none : 0 ≡ returned_by es around marks 0
@@ -279,41 +290,35 @@ module _ (es : List Edge) (around marks : List ℕ) where
     wrong i = wrong_edge ls (edge es i)
 
     -- What a loop over the edges answers, at a wrong one and behind them all.
-    pub answers_wrong : {i : ℕ} → Searched (length es) wrong i → i < length es → wrong i ≡ true → Wrong i ≡ edges_answer es ls around marks
+    pub answers_wrong : {i : ℕ} → Searched (length es) wrong i → i < length es → wrong i ≡ true → Err (WrongEdge i) ≡ edges_answer es ls around marks
     unfolding edges_answer
     answers_wrong searched here is = rw (← exists_hit searched here is, ← hit searched here is)
 
-    pub answers_returns : {i word : ℕ} → Searched (length es) wrong i → length es ≤ i → word ≡ returned_by es around marks (length es) → Returns word ≡ edges_answer es ls around marks
+    pub answers_returns : {i word : ℕ} → Searched (length es) wrong i → length es ≤ i → word ≡ returned_by es around marks (length es) → Ok word ≡ edges_answer es ls around marks
     unfolding edges_answer
     answers_returns searched over is = rw (← exists_none searched over, is)
 
     -- What an answer says of rule 8.
-    pub wrong_says : {i : ℕ} → Wrong i ≡ edges_answer es ls around marks → Refused (WrongEdge i) ≡ broken (length es) wrong WrongEdge
+    pub wrong_says : {f : Refusal} → Err f ≡ edges_answer es ls around marks → Err f ≡ broken (length es) wrong WrongEdge
     unfolding edges_answer
-    wrong_says {i} e =
+    wrong_says {f} e =
         by_bool (exists_below (length es) wrong)
-        (λ t. let q : Wrong i ≡ Wrong (lowest_below (length es) wrong) = rw t at e in rw (t, same_edge q))
-        (λ t. let q : Wrong i ≡ Returns (returned_by es around marks (length es)) = rw t at e in absurd (not_both q))
+        (λ t. let q : ◌≡◌ {A = Result ℕ Refusal} (Err f) (Err (WrongEdge (lowest_below (length es) wrong))) = rw t at e in rw (t, same_refusal q))
+        (λ t. let q : Err f ≡ Ok (returned_by es around marks (length es)) = rw t at e in refused_not_done q)
       where
-        same_edge : {j k : ℕ} → Wrong j ≡ Wrong k → j ≡ k
-        same_edge q = cc
+        same_refusal : {g h : Refusal} → ◌≡◌ {A = Result ℕ Refusal} (Err g) (Err h) → g ≡ h
+        same_refusal q = cc
 
-        not_both : {j w : ℕ} → Wrong j ≡ Returns w → ⊥
-        not_both q = let z : ◌≡◌ {A = ℕ} 0 1 = cc in omega arith
-
-    pub returns_say : {word : ℕ} → Returns word ≡ edges_answer es ls around marks →
-        (Accepted ≡ broken (length es) wrong WrongEdge) × (word ≡ returned_by es around marks (length es))
+    pub returns_say : {word : ℕ} → Ok word ≡ edges_answer es ls around marks →
+        (Ok tt ≡ broken (length es) wrong WrongEdge) × (word ≡ returned_by es around marks (length es))
     unfolding edges_answer
     returns_say {word} e =
         by_bool (exists_below (length es) wrong)
-        (λ t. let q : Returns word ≡ Wrong (lowest_below (length es) wrong) = rw t at e in absurd (not_both q))
-        (λ t. let q : Returns word ≡ Returns (returned_by es around marks (length es)) = rw t at e in (rw t, same_word q))
+        (λ t. let q : Ok word ≡ Err (WrongEdge (lowest_below (length es) wrong)) = rw t at e in refused_not_done (sym q))
+        (λ t. let q : ◌≡◌ {A = Result ℕ Refusal} (Ok word) (Ok (returned_by es around marks (length es))) = rw t at e in (rw t, same_word q))
       where
-        same_word : {j k : ℕ} → Returns j ≡ Returns k → j ≡ k
+        same_word : {j k : ℕ} → ◌≡◌ {A = Result ℕ Refusal} (Ok j) (Ok k) → j ≡ k
         same_word q = cc
-
-        not_both : {j w : ℕ} → Returns w ≡ Wrong j → ⊥
-        not_both q = let z : ◌≡◌ {A = ℕ} 0 1 = cc in omega arith
 
 module _ (es : List Edge) {n : ℕ} {ls : List Loop} {around marks : List ℕ} (a : Around n ls around) (h : Headed n ls marks)
     (from_below : (i : ℕ) → i < length es → (edge es i).from < n) (to_below : (i : ℕ) → i < length es → (edge es i).to < n) where
@@ -337,6 +342,6 @@ module _ (es : List Edge) {n : ℕ} {ls : List Loop} {around marks : List ℕ} (
       }
 
 -- What a bit of the word says of its loop.
-pub lacking : {es : List Edge} {ls : List Loop} {word : ℕ} → Returned es ls word → (j : ℕ) → j < length ls → {bit : Bool} → bit ≡ has word j →
-    no_return es (loop ls j) ≡ not bit
-lacking {es} {ls} returned j lt is = sym (not-not (no_return es (loop ls j))) ∙ ap not (sym (is ∙ returned.told j lt))
+pub lacking : {es : List Edge} {ls : List Loop} {word : ℕ} → Returned es ls word → (j : ℕ) → j < length ls → {bit b : Bool} → bit ≡ has word j → bit ≡ b →
+    no_return es (loop ls j) ≡ not b
+lacking {es} {ls} returned j lt is answer = sym (not-not (no_return es (loop ls j))) ∙ ap not (sym (is ∙ returned.told j lt) ∙ answer)

@@ -1,13 +1,13 @@
 -- Rules 8 and 9 by words, of which bit b stands for loop b.
-use Rattle.std.specs.Prelude.{ℕ, zero, suc, ◌+◌, ◌<◌, ◌≡◌, List, Bool, cond, not, ◌&&◌, ◌||◌, length, get_or, eqb, ltb, leb}
+use Rattle.std.specs.Prelude.{ℕ, zero, suc, ◌+◌, ◌<◌, ◌≡◌, List, Bool, cond, not, ◌&&◌, ◌||◌, length, get_or, eqb, ltb, leb, Err, Ok, Result}
 use Rattle.std.specs.Int.Bits.{bit_and, bit_or, bit_xor}
 use Rattle.model.specs.declared.Edge.{Edge}
 use Rattle.model.specs.declared.Loop.{Loop}
+use Rattle.model.specs.declared.Refusal.{Refusal}
+use Rattle.model.specs.declared.Refusal.TheVariants.{WrongEdge}
 use Rattle.model.specs.Search.{lowest_below, exists_below}
 use Rattle.model.specs.Graph.{edge, loop, holds, wrong_edge, no_return}
 use Rattle.bits.specs.Tests.{has}
-use Rattle.edges.specs.declared.EdgesAnswer.{EdgesAnswer}
-use Rattle.edges.specs.declared.EdgesAnswer.TheVariants.{Wrong, Returns}
 use Rattle.model.specs.Places as places
 
 -- The loops whose range holds v: those held over from the vertex before, and those that start here. Those that end here are not held over.
@@ -47,11 +47,11 @@ returned_by es around marks (suc k) =
     bit_or (returned_by es around marks k) (bit_and (get_or marks (edge es k).to 0) (get_or around (edge es k).from 0))
 
 -- The lowest wrong edge, or the loops that the edges return to.
-unfoldable pub edges_answer : List Edge → List Loop → List ℕ → List ℕ → EdgesAnswer
+unfoldable pub edges_answer : List Edge → List Loop → List ℕ → List ℕ → Result ℕ Refusal
 edges_answer es ls around marks =
     cond (exists_below (length es) (λ i. wrong_edge ls (edge es i)))
-    (Wrong (lowest_below (length es) (λ i. wrong_edge ls (edge es i))))
-    (Returns (returned_by es around marks (length es)))
+    (Err (WrongEdge (lowest_below (length es) (λ i. wrong_edge ls (edge es i)))))
+    (Ok (returned_by es around marks (length es)))
 
 pub record Returned (es : List Edge) (ls : List Loop) (word : ℕ) : Type 0 where
   pub told : (j : ℕ) → j < length ls → has word j ≡ not (no_return es (loop ls j))

@@ -10,7 +10,7 @@ ghost use Rattle.lookup.specs.Lists.{vertices_in, edges_in, loops_in};
 ghost use Rattle.ranges.specs.Marks.{marks_of};
 ghost use Rattle.edges.specs.Words.{AroundTo, wrong_by, edges_answer, Around, Headed, Returned};
 
-use model::{Numbers, Refusal, Verdict, places};
+use model::{Numbers, Refusal, places};
 use ranges::Marks;
 
 // For each vertex the loops around it.
@@ -23,41 +23,28 @@ fn around_of(marks: &Marks, count: usize) -> Words
 {
     let mut around = [0u32; places::MOST_VERTICES];
     let mut held: u32 = 0;
-    let mut v: usize = 0;
-    while v < count {
+    for v in 0..count {
         let here = held | marks[v];
         let ended = marks[places::MOST_VERTICES + v];
         around[v] = here;
         held = (here | ended) ^ ended;
-        v += 1;
     }
     around
 }
 
 // Rule 8. An edge into a range from outside goes to its header. An edge whose end is not above its start goes to the header of a loop that holds
 // its start.
+#[tactic(auto, unfolding(crate::specs::Words::wrong_by))]
 fn is_wrong(into: u32, out: u32, heads: u32, from: usize, to: usize) -> bool
     ensures { result ≡ wrong_by into out heads from to }
 {
     let right = out | heads;
-    if ((into | right) ^ right) != 0 {
-        return true;
-    }
-    if to <= from {
-        return (heads & out) == 0;
-    }
-    false
+    ((into | right) ^ right) != 0 || to <= from && (heads & out) == 0
 }
 
-// What the edges tell: the lowest wrong one, or if there is none the loops that they return to.
-#[derive(Clone, Copy)]
-enum EdgesAnswer {
-    Wrong(usize),
-    Returns(u32),
-}
-
-// Rule 8, and for rule 9 the loops to whose header an edge goes from inside their range.
-fn judge_edges(l: &Numbers, around: &Words, marks: &Marks) -> EdgesAnswer
+// Rule 8: the lowest wrong edge; or where there is none, for rule 9 the loops to whose header an edge goes from inside their range.
+#[tactic(auto, using(lookup::proofs::Places::few_vertices, lookup::proofs::Places::from_below, lookup::proofs::Places::to_below))]
+fn judge_edges(l: &Numbers, around: &Words, marks: &Marks) -> Result<u32, Refusal>
     requires fact_1 { FieldFacts l.now }
     requires fact_2 { Around (vertices_in l.now) (loops_in l.now) around.now }
     requires fact_3 { Headed (vertices_in l.now) (loops_in l.now) marks.now }
@@ -65,49 +52,42 @@ fn judge_edges(l: &Numbers, around: &Words, marks: &Marks) -> EdgesAnswer
 {
     let count = lookup::edge_count(l);
     let mut returned: u32 = 0;
-    let mut i: usize = 0;
-    while i < count {
+    for i in 0..count {
         let from = lookup::edge_from(l, i);
         let to = lookup::edge_to(l, i);
         let heads = marks[to];
         let out = around[from];
         if is_wrong(around[to], out, heads, from, to) {
-            return EdgesAnswer::Wrong(i);
+            return Err(Refusal::WrongEdge(i as u64));
         }
-        returned = returned | (heads & out);
-        i += 1;
+        returned |= heads & out;
     }
-    EdgesAnswer::Returns(returned)
+    Ok(returned)
 }
 
 // Rule 9. Every loop has an edge from inside its range to its header.
-fn judge_returns(l: &Numbers, returned: u32) -> Verdict
+fn judge_returns(l: &Numbers, returned: u32) -> Result<(), Refusal>
     requires fact_1 { FieldFacts l.now }
     requires fact_2 { Returned (edges_in l.now) (loops_in l.now) returned }
     ensures { result ≡ broken (length (loops_in l.now)) (λ j. no_return (edges_in l.now) (loop (loops_in l.now) j)) NoEdgeBack }
 {
     let count = lookup::loop_count(l);
-    let mut j: usize = 0;
-    while j < count {
+    for j in 0..count {
         if !bits::has_bit(returned, j) {
-            return Verdict::Refused(Refusal::NoEdgeBack(j as u64));
+            return Err(Refusal::NoEdgeBack(j as u64));
         }
-        j += 1;
     }
-    Verdict::Accepted
+    Ok(())
 }
 
 // Both rules, where the loops are marked.
-pub fn judge_words(l: &Numbers, marks: Marks) -> Verdict
+pub fn judge_words(l: &Numbers, marks: Marks) -> Result<(), Refusal>
     requires fact_1 { FieldFacts l.now }
     requires fact_2 { marks ≡ marks_of (loops_in l.now) (length (loops_in l.now)) }
     ensures { result ≡ and_then (broken (length (edges_in l.now)) (λ i. wrong_edge (loops_in l.now) (edge (edges_in l.now) i)) WrongEdge)
         (broken (length (loops_in l.now)) (λ j. no_return (edges_in l.now) (loop (loops_in l.now) j)) NoEdgeBack) }
 {
     let around = around_of(&marks, lookup::vertex_count(l));
-    let edges = judge_edges(l, &around, &marks);
-    match edges {
-        EdgesAnswer::Wrong(i) => Verdict::Refused(Refusal::WrongEdge(i as u64)),
-        EdgesAnswer::Returns(returned) => judge_returns(l, returned),
-    }
+    let returned = judge_edges(l, &around, &marks)?;
+    judge_returns(l, returned)
 }

@@ -5,7 +5,7 @@ ghost use Rattle.std.specs.Prelude.{◌≡◌, ◌+◌, ◌≤◌, length};
 ghost use Rattle.std.proofs.lemmas.List.Edits.{sets};
 ghost use Rattle.model.specs.File.{read_field, field_size, field_bytes};
 
-use model::{Field, Number, limits, rows};
+use model::{Field, Misread, limits, rows};
 
 // Whether an edition has no byte for the number at a field.
 pub fn unwritten(edition: u64, c: Field) -> bool
@@ -18,11 +18,11 @@ pub fn unwritten(edition: u64, c: Field) -> bool
 }
 
 // The number at a field, read at a position, and the position after it.
-pub fn read_field(edition: u64, bytes: &[u8], at: usize, c: Field) -> Number
+pub fn read_field(edition: u64, bytes: &[u8], at: usize, c: Field) -> Result<(u64, usize), Misread>
     ensures { result ≡ read_field edition bytes.now at c }
 {
     if unwritten(edition, c) {
-        return Number::Value(0, at);
+        return Ok((0, at));
     }
     spelling::read_number(bytes, at)
 }

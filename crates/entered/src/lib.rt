@@ -13,6 +13,7 @@ use model::{Numbers, places};
 pub type EnteredFlags = [u8; places::MOST_VERTICES];
 
 // Whether edge i leads from one function to another.
+#[tactic(auto, using(lookup::proofs::Places::facts, lookup::proofs::Places::from_below, lookup::proofs::Places::to_below))]
 fn is_crossing(l: &Numbers, i: usize) -> bool
     requires fact_1 { Checked l.now }
     requires fact_2 { i < length (edges_of (problem_of l.now)) }
@@ -29,13 +30,11 @@ fn is_crossing(l: &Numbers, i: usize) -> bool
 fn flag_after(flag: u8, crossing: bool) -> u8
     ensures { result ≡ cond crossing 1 flag }
 {
-    if crossing {
-        return 1;
-    }
-    flag
+    if crossing { 1 } else { flag }
 }
 
 // Flags vertex 0, and the end of each edge from one function to another.
+#[tactic(auto, using(lookup::proofs::Places::facts, lookup::proofs::Places::to_small))]
 pub fn entered_flags(l: &Numbers) -> EnteredFlags
     requires { Checked l.now }
     ensures { EnteredTold (problem_of l.now) result }
@@ -43,11 +42,9 @@ pub fn entered_flags(l: &Numbers) -> EnteredFlags
     let mut flags = [0u8; places::MOST_VERTICES];
     flags[0] = 1;
     let count = lookup::edge_count(l);
-    let mut i: usize = 0;
-    while i < count {
+    for i in 0..count {
         let to = lookup::edge_to(l, i);
         flags[to] = flag_after(flags[to], is_crossing(l, i));
-        i += 1;
     }
     flags
 }

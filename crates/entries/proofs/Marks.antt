@@ -74,7 +74,8 @@ module _ {es : List Edge} {k : ℕ} {entered exited : List ℕ} (marked : EndsMa
         out = leaves;
       })
 
+-- What the test by marks answers of a vertex.
 pub lacks_told : {es : List Edge} {entered exited : List ℕ} → EndsMarked es (length es) entered exited → (v : ℕ) → v < places.most_vertices →
-    {m n : ℕ} → m ≡ n → {r : Bool} → r ≡ lacks_by (get_or entered v 0) (get_or exited v 0) v m → r ≡ lacks n es v
+    {m n : ℕ} → m ≡ n → {r b : Bool} → r ≡ lacks_by (get_or entered v 0) (get_or exited v 0) v m → r ≡ b → lacks n es v ≡ b
 unfolding lacks
-lacks_told {es} marked v h e {r} is = rw (marked.into v h, marked.out v h, e) at is
+lacks_told {es} marked v h e {r} is answer = sym (rw (marked.into v h, marked.out v h, e) at is) ∙ answer

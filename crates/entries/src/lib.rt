@@ -8,17 +8,15 @@ ghost use Rattle.facts.specs.Fields.{FieldFacts};
 ghost use Rattle.lookup.specs.Lists.{vertices_in, edges_in};
 ghost use Rattle.entries.specs.Marks.{entry_mark, lacks_by, EndsMarked};
 
-use model::{Numbers, Refusal, Verdict, places};
+use model::{Numbers, Refusal, places};
 
 fn entry_mark(mark: u8, from: usize, to: usize) -> u8
     ensures { result ≡ entry_mark mark from to }
 {
-    if from < to {
-        return 1;
-    }
-    mark
+    if from < to { 1 } else { mark }
 }
 
+#[tactic(auto, using(lookup::proofs::Places::from_small, lookup::proofs::Places::to_small))]
 fn mark_ends(
     l: &Numbers,
     entered: &mut [u8; places::MOST_VERTICES],
@@ -29,40 +27,24 @@ fn mark_ends(
     ensures { EndsMarked (edges_in l.now) (length (edges_in l.now)) entered.new exited.new }
 {
     let count = lookup::edge_count(l);
-    let mut i: usize = 0;
-    while i < count {
+    for i in 0..count {
         let from = lookup::edge_from(l, i);
         let to = lookup::edge_to(l, i);
         entered[to] = entry_mark(entered[to], from, to);
         exited[from] = 1;
-        i += 1;
     }
-}
-
-fn lacks_entry(entry: u8, v: usize) -> bool
-    ensures { result ≡ (ltb 0 v && not (eqb entry 1)) }
-{
-    if 0 < v {
-        return entry != 1;
-    }
-    false
 }
 
 fn lacks_edge(entry: u8, exit: u8, v: usize, count: usize) -> bool
     requires { 1 ≤ count }
     ensures { result ≡ lacks_by entry exit v count }
 {
-    if lacks_entry(entry, v) {
-        return true;
-    }
-    if v < count - 1 {
-        return exit != 1;
-    }
-    false
+    0 < v && entry != 1 || v < count - 1 && exit != 1
 }
 
 // Refuses at the lowest vertex that lacks an edge.
-pub fn judge_vertices(l: &Numbers) -> Verdict
+#[tactic(auto, using(lookup::proofs::Places::few_vertices, lookup::proofs::Places::some_vertex))]
+pub fn judge_vertices(l: &Numbers) -> Result<(), Refusal>
     requires { FieldFacts l.now }
     ensures { result ≡ broken (vertices_in l.now) (lacks (vertices_in l.now) (edges_in l.now)) MissingEdge }
 {
@@ -70,12 +52,10 @@ pub fn judge_vertices(l: &Numbers) -> Verdict
     let mut exited = [0u8; places::MOST_VERTICES];
     mark_ends(l, &mut entered, &mut exited);
     let count = lookup::vertex_count(l);
-    let mut v: usize = 0;
-    while v < count {
+    for v in 0..count {
         if lacks_edge(entered[v], exited[v], v, count) {
-            return Verdict::Refused(Refusal::MissingEdge(v as u64));
+            return Err(Refusal::MissingEdge(v as u64));
         }
-        v += 1;
     }
-    Verdict::Accepted
+    Ok(())
 }

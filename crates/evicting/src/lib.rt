@@ -30,12 +30,6 @@ fn named(l: &Numbers, regions: &[u8], f: usize, steps: &Steps, u: usize) -> usiz
     NO_FUNCTION
 }
 
-fn smaller(a: usize, b: usize) -> usize
-    ensures { result ≡ min a b }
-{
-    if b < a { b } else { a }
-}
-
 // The lowest function that a vertex names.
 pub fn lowest(l: &Numbers, regions: &[u8], f: usize, steps: &Steps) -> usize
     requires { Sharing l.now regions.now f }
@@ -43,10 +37,8 @@ pub fn lowest(l: &Numbers, regions: &[u8], f: usize, steps: &Steps) -> usize
 {
     let count = lookup::vertex_count(l);
     let mut least = NO_FUNCTION;
-    let mut u: usize = 0;
-    while u < count {
-        least = smaller(least, named(l, regions, f, steps, u));
-        u += 1;
+    for u in 0..count {
+        least = least.min(named(l, regions, f, steps, u));
     }
     least
 }

@@ -1,5 +1,8 @@
 -- Eviction's contract decides its answer and the lent walk: a vertex has one reason, and the reason one walk.
 use Prim.Native.Nat.{ℕ}
+use Rattle.std.specs.Prelude.{Err, Ok, Result}
+use Rattle.model.specs.declared.Refusal.{Refusal}
+use Rattle.model.specs.declared.Eviction.{Eviction}
 use mathlib.Core.Path.{◌≡◌, refl, sym, ap, subst, ◌∙◌}
 use mathlib.Core.List.{List, Memᴰ}
 use mathlib.Core.Bool.{false}
@@ -8,12 +11,9 @@ use native.Mathlib.Omega.{arith}
 use lib.ListN.{length}
 use lib.Seq.{sets}
 use Rattle.model.specs.declared.Refusal.TheVariants.{BufferTooShort}
-use Rattle.model.specs.declared.Verdict.TheVariants as verdict
 use Rattle.model.specs.declared.Problem.{Problem}
 use Rattle.model.specs.declared.Reason.{Reason}
 use Rattle.model.specs.declared.Reason.TheVariants.{EveryVisit, FirstLoad, Never}
-use Rattle.model.specs.declared.EvictionAnswer.{EvictionAnswer}
-use Rattle.model.specs.declared.EvictionAnswer.TheVariants.{Shown, Refused}
 use Rattle.model.specs.Costs.{function_of}
 use Rattle.model.specs.Walks.{EdgeOf}
 use Rattle.model.specs.Layouts.{region_of}
@@ -48,21 +48,21 @@ module _ (p : Problem) (layout : List ℕ) (v : ℕ) (before after after' : List
       EvictionBy (function_of p) (EdgeOf p) (region_of layout) v b ys → (a ≡ b) × (xs ≡ ys)
   once = reason_once (function_of p) (EdgeOf p) (region_of layout) v
 
-  pub eviction_decided : (r s : EvictionAnswer) → EvictionSays p layout v before after r → EvictionSays p layout v before after' s → (r ≡ s) × (after ≡ after')
-  eviction_decided (Shown e) (Shown e') (good, (xs, is, count, room, stored)) (good', (ys, is', count', room', stored')) =
+  pub eviction_decided : (r s : Result Eviction Refusal) → EvictionSays p layout v before after r → EvictionSays p layout v before after' s → (r ≡ s) × (after ≡ after')
+  eviction_decided (Ok e) (Ok e') (good, (xs, is, count, room, stored)) (good', (ys, is', count', room', stored')) =
       let (reasons, walks) = once e.reason e'.reason xs ys is is' in
       let counts : e.count ≡ e'.count = count ∙ ap length walks ∙ sym count' in
-      (λ i. Shown (record { reason = reasons i; count = counts i }), stored ∙ ap (sets before 0) walks ∙ sym stored')
-  eviction_decided (Shown e) (Refused f) (good, rest) (kept, inl refused) = refused_not_accepted (sym refused ∙ good)
-  eviction_decided (Shown e) (Refused f) (good, (xs, is, count, room, stored)) (kept, inr (good', (reason, ys, is', short, told))) =
+      (λ i. Ok (record { reason = reasons i; count = counts i }), stored ∙ ap (sets before 0) walks ∙ sym stored')
+  eviction_decided (Ok e) (Err f) (good, rest) (kept, inl refused) = refused_not_accepted (sym refused ∙ good)
+  eviction_decided (Ok e) (Err f) (good, (xs, is, count, room, stored)) (kept, inr (good', (reason, ys, is', short, told))) =
       let walks = (once e.reason reason xs ys is is').1 in absurd (omega (arith, ap length walks))
-  eviction_decided (Refused f) (Shown e) (kept, inl refused) (good, rest) = refused_not_accepted (sym refused ∙ good)
-  eviction_decided (Refused f) (Shown e) (kept, inr (good', (reason, ys, is', short, told))) (good, (xs, is, count, room, stored)) =
+  eviction_decided (Err f) (Ok e) (kept, inl refused) (good, rest) = refused_not_accepted (sym refused ∙ good)
+  eviction_decided (Err f) (Ok e) (kept, inr (good', (reason, ys, is', short, told))) (good, (xs, is, count, room, stored)) =
       let walks = (once e.reason reason xs ys is is').1 in absurd (omega (arith, ap length walks))
-  eviction_decided (Refused f) (Refused g) (kept, inl refused) (kept', inl refused') =
-      let same : verdict.Refused f ≡ verdict.Refused g = sym refused ∙ refused' in let is : f ≡ g = cc in (ap Refused is, kept ∙ sym kept')
-  eviction_decided (Refused f) (Refused g) (kept, inl refused) (kept', inr (good, rest)) = refused_not_accepted (sym refused ∙ good)
-  eviction_decided (Refused f) (Refused g) (kept, inr (good, rest)) (kept', inl refused) = refused_not_accepted (sym refused ∙ good)
-  eviction_decided (Refused f) (Refused g) (kept, inr (good, (a, xs, is, short, told))) (kept', inr (good', (b, ys, is', short', told'))) =
+  eviction_decided (Err f) (Err g) (kept, inl refused) (kept', inl refused') =
+      let same : Err f ≡ Err g = sym refused ∙ refused' in let is : f ≡ g = cc in (ap Err is, kept ∙ sym kept')
+  eviction_decided (Err f) (Err g) (kept, inl refused) (kept', inr (good, rest)) = refused_not_accepted (sym refused ∙ good)
+  eviction_decided (Err f) (Err g) (kept, inr (good, rest)) (kept', inl refused) = refused_not_accepted (sym refused ∙ good)
+  eviction_decided (Err f) (Err g) (kept, inr (good, (a, xs, is, short, told))) (kept', inr (good', (b, ys, is', short', told'))) =
       let walks = (once a b xs ys is is').1 in
-      (ap Refused (told ∙ ap (λ (walk : List ℕ). BufferTooShort (length walk)) walks ∙ sym told'), kept ∙ sym kept')
+      (ap Err (told ∙ ap (λ (walk : List ℕ). BufferTooShort (length walk)) walks ∙ sym told'), kept ∙ sym kept')

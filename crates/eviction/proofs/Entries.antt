@@ -1,12 +1,12 @@
 -- The walk by numbers at rest has one entry more than the steps from vertex 0: so its length is known before an entry is written.
 use Prim.Native.Nat.{ℕ, ◌+◌, ◌≤◌, ◌<◌}
+use Rattle.std.specs.Prelude.{Err, Ok}
 use mathlib.Core.Path.{◌≡◌, refl, ap}
 use mathlib.Core.List.{List, ◌∷◌}
 use native.Mathlib.Omega.{arith}
 use lib.ListN.{length, get_or}
 use Rattle.model.specs.declared.Refusal.TheVariants.{BufferTooShort}
 use Rattle.model.specs.declared.Reason.{Reason}
-use Rattle.model.specs.declared.EvictionAnswer.TheVariants.{Shown, Refused}
 use Rattle.model.specs.Numbers.{problem_of}
 use Rattle.ways.specs.Ways.{no_way, Falls}
 use Rattle.ways.proofs.Turns.{first_steps}
@@ -32,7 +32,7 @@ module _ {l begins : List ℕ} {f g : ℕ} {d : List ℕ} {s : ℕ} (leading : L
   followable room enough = record { leading = leading; enough = omega (arith, first_steps d s) }
 
   module _ (reason : Reason) (before : List ℕ) where
-    pub too_short : length before < get_or d s 0 + 1 → Showed (problem_of l) f g d s reason before before (Refused (BufferTooShort (get_or d s 0 + 1)))
+    pub too_short : length before < get_or d s 0 + 1 → Showed (problem_of l) f g d s reason before before (Err (BufferTooShort (get_or d s 0 + 1)))
     unfolding Lent
     too_short short =
         let (ws, falls) =
@@ -40,6 +40,6 @@ module _ {l begins : List ℕ} {f g : ℕ} {d : List ℕ} {s : ℕ} (leading : L
         (ws, falls, (refl, omega (arith, entries ws falls), ap BufferTooShort (entries ws falls)))
 
     pub showed : get_or d s 0 + 1 ≤ length before → (after : List ℕ) → Followed (problem_of l) f g d s before after →
-        Showed (problem_of l) f g d s reason before after (Shown (record { reason = reason; count = get_or d s 0 + 1 }))
+        Showed (problem_of l) f g d s reason before after (Ok (record { reason = reason; count = get_or d s 0 + 1 }))
     unfolding Lent
     showed enough after (ws, falls, is) = (ws, falls, (refl, entries ws falls, omega (arith, entries ws falls), is))

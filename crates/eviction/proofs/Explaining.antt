@@ -1,11 +1,12 @@
 -- The numbers for a vertex lead on where its reason has a walk, and what is then shown explains the vertex.
 use Prim.Native.Nat.{ℕ, ◌≤◌, ◌<◌}
+use Rattle.std.specs.Prelude.{Ok, Result}
+use Rattle.model.specs.declared.Refusal.{Refusal}
+use Rattle.model.specs.declared.Eviction.{Eviction}
 use mathlib.Core.Path.{◌≡◌, refl, subst}
 use mathlib.Core.List.{List, [], ◌∷◌}
 use native.Mathlib.Omega.{arith}
 use Rattle.model.specs.declared.Reason.TheVariants.{EveryVisit, FirstLoad, Never}
-use Rattle.model.specs.declared.EvictionAnswer.{EvictionAnswer}
-use Rattle.model.specs.declared.EvictionAnswer.TheVariants.{Shown}
 use Rattle.model.specs.Numbers.{problem_of}
 use Rattle.model.specs.Costs.{function_of}
 use Rattle.model.specs.Places.{most_functions}
@@ -50,7 +51,7 @@ module _ {l regions : List ℕ} {v f : ℕ} (ready : Explainable l regions v) (i
           way = every_way ready free (own_rest rest) g own_lowest some d (own_rest by_g);
         }
 
-        pub every_explained : (before after : List ℕ) (r : EvictionAnswer) → Showed (problem_of l) f g d 0 (EveryVisit g) before after r →
+        pub every_explained : (before after : List ℕ) (r : Result Eviction Refusal) → Showed (problem_of l) f g d 0 (EveryVisit g) before after r →
             Explained (problem_of l) regions v before after r
         every_explained before after r (ws, falls, lent) = (
           EveryVisit g,
@@ -67,7 +68,7 @@ module _ {l regions : List ℕ} {v f : ℕ} (ready : Explainable l regions v) (i
           pub first_leads : Leading l begins f most_functions free 1
           first_leads = record { checked = ready.checked; starts = starts; goal = v; at_rest = rest; low = omega arith; way = way }
 
-          pub first_explained : (before after : List ℕ) (r : EvictionAnswer) → Showed (problem_of l) f most_functions free 1 FirstLoad before after r →
+          pub first_explained : (before after : List ℕ) (r : Result Eviction Refusal) → Showed (problem_of l) f most_functions free 1 FirstLoad before after r →
               Explained (problem_of l) regions v before after r
           first_explained before after r (ws, falls, lent) = (
             FirstLoad,
@@ -79,7 +80,7 @@ module _ {l regions : List ℕ} {v f : ℕ} (ready : Explainable l regions v) (i
 
         -- 3, it does not.
         pub never_explained : no_way ≤ steps free 0 1 → (before : List ℕ) →
-            Explained (problem_of l) regions v before before (Shown (record { reason = Never; count = 0 }))
+            Explained (problem_of l) regions v before before (Ok (record { reason = Never; count = 0 }))
         unfolding Lent
         never_explained way_less before =
             (Never, [], never ready free (own_rest rest) g own_lowest none way_less, omega arith, (refl, refl, omega arith, refl))

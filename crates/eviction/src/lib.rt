@@ -10,8 +10,7 @@ ghost use Rattle.eviction.specs.Showing.{Showed, Explainable, Explained};
 
 use evicting::NO_FUNCTION;
 use flow::Begins;
-use layout::LayoutAnswer;
-use model::{Eviction, EvictionAnswer, Numbers, Problem, Reason, Refusal, Verdict};
+use model::{Eviction, Numbers, Problem, Reason, Refusal};
 use ways::{NO_WAY, Steps};
 
 // The walk by these numbers to the front of the buffer, with the reason that it shows; or 10, and the buffer is left as it is.
@@ -24,16 +23,16 @@ fn show(
     phase: usize,
     reason: Reason,
     walk: &mut [u32],
-) -> EvictionAnswer
+) -> Result<Eviction, Refusal>
     requires { Leading l.now begins.now f g steps.now phase }
     ensures { Showed (problem_of l.now) f g steps.now phase reason walk.old walk.new result }
 {
     let count = steps[phase] + 1;
     if walk.len() < count {
-        return EvictionAnswer::Refused(Refusal::BufferTooShort(count as u64));
+        return Err(Refusal::BufferTooShort(count as u64));
     }
     following::follow(l, begins, f, g, steps, phase, walk);
-    EvictionAnswer::Shown(Eviction {
+    Ok(Eviction {
         reason: reason,
         count: count,
     })
@@ -41,7 +40,7 @@ fn show(
 
 // The reason for v under regions that list every function. The steps to v past no vertex of its own function tell which functions come between, and whether
 // a way leads there from vertex 0. Where a function is named, the shortest way by it takes a search of its own.
-fn explain(l: &Numbers, regions: &[u8], v: usize, walk: &mut [u32]) -> EvictionAnswer
+fn explain(l: &Numbers, regions: &[u8], v: usize, walk: &mut [u32]) -> Result<Eviction, Refusal>
     requires { Explainable l.now regions.now v }
     ensures { Explained (problem_of l.now) regions.now v walk.old walk.new result }
 {
@@ -66,14 +65,19 @@ fn explain(l: &Numbers, regions: &[u8], v: usize, walk: &mut [u32]) -> EvictionA
             walk,
         );
     }
-    EvictionAnswer::Shown(Eviction {
+    Ok(Eviction {
         reason: Reason::Never,
         count: 0,
     })
 }
 
 // Eviction on checked numbers: the layout, the vertex, and the reason.
-pub fn eviction_checked(l: &Numbers, layout: &[u8], vertex: u64, walk: &mut [u32]) -> EvictionAnswer
+pub fn eviction_checked(
+    l: &Numbers,
+    layout: &[u8],
+    vertex: u64,
+    walk: &mut [u32],
+) -> Result<Eviction, Refusal>
     requires { Checked l.now }
     ensures eviction_says { EvictionSays (problem_of l.now) layout.now vertex walk.old walk.new result }
     ensures eviction_fits { EvictionFits (problem_of l.now) layout.now vertex walk.old result }
@@ -81,28 +85,24 @@ pub fn eviction_checked(l: &Numbers, layout: &[u8], vertex: u64, walk: &mut [u32
     let count = lookup::function_count(l);
     let regions = filled::filled_in(layout, count);
     let whole: &[u8] = &regions[..count];
-    let judged = layout::judge(l, layout, whole);
-    let LayoutAnswer::Fits(_) = judged else {
-        return EvictionAnswer::Refused(model::refusal_in(layout::verdict_of(judged)));
-    };
-    let known = vertex_checks::judge_vertex(l, vertex);
-    let Verdict::Accepted = known else {
-        return EvictionAnswer::Refused(model::refusal_in(known));
-    };
+    layout::judge(l, layout, whole)?;
+    vertex_checks::judge_vertex(l, vertex)?;
     explain(l, whole, vertex as usize, walk)
 }
 
 // **Eviction.** Why the vertex pays its load, and the shortest walk that shows it at the front of the buffer, with its entries; or the first refusal that
 // applies, and the buffer is left as it is.
-pub fn eviction(problem: Problem, layout: &[u8], vertex: u64, walk: &mut [u32]) -> EvictionAnswer
+pub fn eviction(
+    problem: Problem,
+    layout: &[u8],
+    vertex: u64,
+    walk: &mut [u32],
+) -> Result<Eviction, Refusal>
     ensures eviction_says { EvictionSays problem layout.now vertex walk.old walk.new result }
     ensures eviction_fits { EvictionFits problem layout.now vertex walk.old result }
     ensures evicted { Evicted problem layout.now vertex walk.old walk.new (eviction_outcome result) }
 {
     let numbers = numbers::numbers_of(problem);
-    let verdict = checks::judge(&numbers);
-    let Verdict::Accepted = verdict else {
-        return EvictionAnswer::Refused(model::refusal_in(verdict));
-    };
+    checks::judge(&numbers)?;
     eviction_checked(&numbers, layout, vertex, walk)
 }

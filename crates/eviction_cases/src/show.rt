@@ -1,7 +1,5 @@
 // A reason, and the walk that shows it, in a line.
-ghost use Rattle.std.specs.Prelude.{◌≡◌};
-
-use model::{EvictionAnswer, Problem, Reason};
+use model::{Problem, Reason};
 use prints::{number, text};
 use std::io;
 use std::io::Write;
@@ -44,7 +42,7 @@ pub fn line(
     text(out, title)?;
     let answer = eviction::eviction(problem, layout, vertex, walk);
     match answer {
-        EvictionAnswer::Shown(e) => {
+        Ok(e) => {
             let why = e.reason;
             let count = e.count;
             reason(out, why)?;
@@ -52,8 +50,8 @@ pub fn line(
                 entries(out, walk, count)?;
             }
         }
-        EvictionAnswer::Refused(f) => {
-            prints::placed(out, b"refused ", model::number_of(f), model::place_of(f))?;
+        Err(f) => {
+            prints::placed(out, b"refused ", f.number(), f.place())?;
         }
     }
     text(out, b"\n")
@@ -70,23 +68,6 @@ pub fn one(
     line(out, title, problem, layout, vertex, &mut walk)
 }
 
-// A problem's fields, for another call on the same problem.
-fn copied(problem: &Problem) -> Problem
-    ensures { result ≡ problem.now }
-{
-    Problem {
-        scratchpad: problem.scratchpad,
-        function_count: problem.function_count,
-        functions: problem.functions,
-        vertex_count: problem.vertex_count,
-        vertices: problem.vertices,
-        edge_count: problem.edge_count,
-        edges: problem.edges,
-        loop_count: problem.loop_count,
-        loops: problem.loops,
-    }
-}
-
 // Every vertex.
 pub fn each(
     out: &mut impl Write,
@@ -98,7 +79,7 @@ pub fn each(
     text(out, title)?;
     for v in 0..vertices {
         number(out, b"vertex ", v)?;
-        one(out, b": ", copied(&problem), layout, v)?;
+        one(out, b": ", problem, layout, v)?;
     }
     Ok(())
 }

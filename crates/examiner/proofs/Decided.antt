@@ -1,10 +1,11 @@
 -- The contracts of the exports of Interference, Bound, Eviction and Read-sentence leave nothing open: no two outcomes meet them.
 use Prim.Native.Nat.{ℕ, ◌^◌, ◌<◌}
+use Rattle.std.specs.Prelude.{Err, Ok, Result}
+use Rattle.model.specs.declared.Refusal.{Refusal}
+use Rattle.model.specs.declared.Problem.{Problem}
 use mathlib.Core.Path.{◌≡◌, sym, ap, ◌∙◌}
 use mathlib.Core.List.{List}
 use lib.ListN.{get_or}
-use Rattle.model.specs.declared.ReadAnswer.{ReadAnswer}
-use Rattle.model.specs.declared.ReadAnswer.TheVariants as read
 use Rattle.model.specs.Operations.{read_file}
 use Rattle.bound.proofs.Decided.{bound_decided}
 use Rattle.eviction.proofs.Decided.{eviction_decided}
@@ -22,10 +23,10 @@ told_once Says Says' once before after after' r r' a b =
     (a.status_is ∙ ap status same ∙ sym b.status_is, a.answer_is ∙ ap (λ (o : Outcome). answer_after o before) same ∙ sym b.answer_is)
 
 module _ (layout : List ℕ) (o o' : Outcome) where
-  bounded_once : (a : ReadAnswer) → ByRead a (λ p. IsBounded p layout o) (λ f. o ≡ refusal_outcome f) →
+  bounded_once : (a : Result Problem Refusal) → ByRead a (λ p. IsBounded p layout o) (λ f. o ≡ refusal_outcome f) →
       ByRead a (λ p. IsBounded p layout o') (λ f. o' ≡ refusal_outcome f) → o ≡ o'
-  bounded_once (read.Accepted p) (r, says, is) (r', says', is') = is ∙ ap bound_outcome (bound_decided p layout r r' says says') ∙ sym is'
-  bounded_once (read.Refused f) is is' = is ∙ sym is'
+  bounded_once (Ok p) (r, says, is) (r', says', is') = is ∙ ap bound_outcome (bound_decided p layout r r' says says') ∙ sym is'
+  bounded_once (Err f) is is' = is ∙ sym is'
 
 pub bound_export_decided : (file layout before after after' : List ℕ) (r r' : ℕ) →
     Right (BoundTold file layout) before after r → Right (BoundTold file layout) before after' r' → (r ≡ r') × (after ≡ after')
@@ -41,11 +42,11 @@ told_both Says end end' once before after after' r r' a b =
 
 -- Words of 32 bits at the end.
 module _ (words end end' : List ℕ) (small : (k : ℕ) → get_or end k 0 < 2 ^ 32) (small' : (k : ℕ) → get_or end' k 0 < 2 ^ 32) where
-  filled_once : (o o' : Outcome) (a : ReadAnswer) → ByRead a (λ p. FillsWords p words end o) (λ f. (o ≡ refusal_outcome f) × (end ≡ words)) →
+  filled_once : (o o' : Outcome) (a : Result Problem Refusal) → ByRead a (λ p. FillsWords p words end o) (λ f. (o ≡ refusal_outcome f) × (end ≡ words)) →
       ByRead a (λ p. FillsWords p words end' o') (λ f. (o' ≡ refusal_outcome f) × (end' ≡ words)) → (o ≡ o') × (end ≡ end')
-  filled_once o o' (read.Accepted p) (r, says, is) (r', says', is') =
+  filled_once o o' (Ok p) (r, says, is) (r', says', is') =
       let d = interference_decided p words end end' small small' r r' says says' in (is ∙ ap interference_outcome d.0 ∙ sym is', d.1)
-  filled_once o o' (read.Refused f) (is, kept) (is', kept') = (is ∙ sym is', kept ∙ sym kept')
+  filled_once o o' (Err f) (is, kept) (is', kept') = (is ∙ sym is', kept ∙ sym kept')
 
   module _ (file : List ℕ) where
     pub interference_export_decided : (before after after' : List ℕ) (r r' : ℕ) →
@@ -54,11 +55,11 @@ module _ (words end end' : List ℕ) (small : (k : ℕ) → get_or end k 0 < 2 ^
     interference_export_decided = told_both (InterferenceTold file words) end end' (λ o o'. filled_once o o' (read_file file))
 
 module _ (layout : List ℕ) (v : ℕ) (walk end end' : List ℕ) where
-  evicted_once : (o o' : Outcome) (a : ReadAnswer) → ByRead a (λ p. Evicted p layout v walk end o) (λ f. (o ≡ refusal_outcome f) × (end ≡ walk)) →
+  evicted_once : (o o' : Outcome) (a : Result Problem Refusal) → ByRead a (λ p. Evicted p layout v walk end o) (λ f. (o ≡ refusal_outcome f) × (end ≡ walk)) →
       ByRead a (λ p. Evicted p layout v walk end' o') (λ f. (o' ≡ refusal_outcome f) × (end' ≡ walk)) → (o ≡ o') × (end ≡ end')
-  evicted_once o o' (read.Accepted p) (r, says, is) (r', says', is') =
+  evicted_once o o' (Ok p) (r, says, is) (r', says', is') =
       let d = eviction_decided p layout v walk end end' r r' says says' in (is ∙ ap eviction_outcome d.0 ∙ sym is', d.1)
-  evicted_once o o' (read.Refused f) (is, kept) (is', kept') = (is ∙ sym is', kept ∙ sym kept')
+  evicted_once o o' (Err f) (is, kept) (is', kept') = (is ∙ sym is', kept ∙ sym kept')
 
   pub eviction_export_decided : (file before after after' : List ℕ) (r r' : ℕ) →
       Right (EvictionTold file layout v walk end) before after r → Right (EvictionTold file layout v walk end') before after' r' →

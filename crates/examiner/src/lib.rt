@@ -8,7 +8,7 @@ ghost use Rattle.examiner.specs.Exports.{read_told, write_told, write_out, field
 ghost use Rattle.model.specs.Sentences.{worded_buffer};
 ghost use Rattle.model.specs.Outcomes.{word_says, Understood};
 
-use model::{Drawing, Reason, Refusal, Remark, Verdict, limits, places};
+use model::{Drawing, Reason, Refusal, Remark, limits, places};
 use outcomes::Answer;
 
 // **Read**: the numbers of functions, vertices, edges and loops.
@@ -17,10 +17,9 @@ pub fn examiner_read(file: &[u8], answer: &mut Answer) -> u32
     ensures answer_after { answer.new ≡ answer_after (read_told file.now) answer.old }
 {
     let mut numbers = [0u64; places::END];
-    let verdict = file::read_numbers(file, &mut numbers);
-    let Verdict::Accepted = verdict else {
-        return outcomes::refuse(model::refusal_in(verdict), answer);
-    };
+    if let Err(refusal) = file::read_numbers(file, &mut numbers) {
+        return outcomes::refuse(refusal, answer);
+    }
     outcomes::tell_counts(&numbers, answer)
 }
 
@@ -31,10 +30,9 @@ pub fn examiner_write(file: &[u8], out: &mut [u8], answer: &mut Answer) -> u32
     ensures out_after { out.new ≡ write_out file.now out.old }
 {
     let mut numbers = [0u64; places::END];
-    let verdict = file::read_numbers(file, &mut numbers);
-    let Verdict::Accepted = verdict else {
-        return outcomes::refuse(model::refusal_in(verdict), answer);
-    };
+    if let Err(refusal) = file::read_numbers(file, &mut numbers) {
+        return outcomes::refuse(refusal, answer);
+    }
     let problem = records::problem_of(&numbers);
     outcomes::tell_written(file::write(problem, out), answer)
 }
@@ -59,10 +57,9 @@ pub fn examiner_interference(file: &[u8], words: &mut [u32], answer: &mut Answer
     ensures { Right (InterferenceTold file.now words.old words.new) answer.old answer.new result }
 {
     let mut numbers = [0u64; places::END];
-    let verdict = file::read_numbers(file, &mut numbers);
-    let Verdict::Accepted = verdict else {
-        return outcomes::refuse(model::refusal_in(verdict), answer);
-    };
+    if let Err(refusal) = file::read_numbers(file, &mut numbers) {
+        return outcomes::refuse(refusal, answer);
+    }
     let filled = interference::interference_checked(&numbers, words);
     outcomes::tell_filled(filled, answer)
 }
@@ -72,10 +69,9 @@ pub fn examiner_bound(file: &[u8], layout: &[u8], answer: &mut Answer) -> u32
     ensures { Right (BoundTold file.now layout.now) answer.old answer.new result }
 {
     let mut numbers = [0u64; places::END];
-    let verdict = file::read_numbers(file, &mut numbers);
-    let Verdict::Accepted = verdict else {
-        return outcomes::refuse(model::refusal_in(verdict), answer);
-    };
+    if let Err(refusal) = file::read_numbers(file, &mut numbers) {
+        return outcomes::refuse(refusal, answer);
+    }
     let bounded = bound::bound_checked(&numbers, layout);
     outcomes::tell_bounded(bounded, answer)
 }
@@ -93,10 +89,9 @@ pub fn examiner_run(
     ensures held_after { held.new ≡ run_held file.now layout.now walk.now held.old }
 {
     let mut numbers = [0u64; places::END];
-    let verdict = file::read_numbers(file, &mut numbers);
-    let Verdict::Accepted = verdict else {
-        return outcomes::refuse(model::refusal_in(verdict), answer);
-    };
+    if let Err(refusal) = file::read_numbers(file, &mut numbers) {
+        return outcomes::refuse(refusal, answer);
+    }
     let ran = run::run_checked(&numbers, layout, walk, held);
     outcomes::tell_ran(ran, answer)
 }
@@ -108,10 +103,9 @@ pub fn examiner_inline(drawing: &Drawing, out: &mut [u8], answer: &mut Answer) -
     ensures out_after { out.new ≡ inline_out drawing.now out.old }
 {
     let mut numbers = [0u64; places::END];
-    let verdict = inline::inline_numbers(drawing, &mut numbers);
-    let Verdict::Accepted = verdict else {
-        return outcomes::refuse(model::refusal_in(verdict), answer);
-    };
+    if let Err(refusal) = inline::inline_numbers(drawing, &mut numbers) {
+        return outcomes::refuse(refusal, answer);
+    }
     outcomes::tell_written(file::write_checked(&numbers, out), answer)
 }
 
@@ -127,10 +121,9 @@ pub fn examiner_eviction(
     ensures { Right (EvictionTold file.now layout.now vertex walk.old walk.new) answer.old answer.new result }
 {
     let mut numbers = [0u64; places::END];
-    let verdict = file::read_numbers(file, &mut numbers);
-    let Verdict::Accepted = verdict else {
-        return outcomes::refuse(model::refusal_in(verdict), answer);
-    };
+    if let Err(refusal) = file::read_numbers(file, &mut numbers) {
+        return outcomes::refuse(refusal, answer);
+    }
     let evicted = eviction::eviction_checked(&numbers, layout, vertex, walk);
     outcomes::tell_evicted(evicted, answer)
 }
@@ -156,7 +149,7 @@ pub fn examiner_word_refusal(number: u32, place: u64, text: &mut [u8], answer: &
     if limits::LAST_REFUSAL < number {
         return outcomes::refuse(Refusal::OutOfRange(0), answer);
     }
-    let refusal = model::refusal_of(number, place);
+    let refusal = Refusal::numbered(number, place);
     word_told(Remark::Refused(refusal), text, answer)
 }
 

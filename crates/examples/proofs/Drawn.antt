@@ -1,13 +1,12 @@
 -- A drawing that is inlined, and a lawful run of it: what Inline's theorems ask for can be had. Function 0's vertex 1, a loop of at most three visits,
 -- calls function 1, which has one vertex.
 use Prim.Native.Nat.{ℕ, ◌≤◌}
+use Rattle.std.specs.Prelude.{Ok, None}
 use mathlib.Core.Path.{◌≡◌, refl, sym, subst}
 use mathlib.Core.List.{List, [], ◌∷◌, ◌++◌, flat_map, Memᴰ}
-use mathlib.Core.Option.{none}
 use native.Mathlib.Omega.{arith}
 use lib.ListN.{replicate}
 use Rattle.model.specs.declared.Loop.{Loop}
-use Rattle.model.specs.declared.Verdict.TheVariants.{Accepted}
 use Rattle.model.specs.Table.{limits, bases, kinds, jumps, counts}
 use Rattle.model.specs.Numbers.{table_from, some_check, edition_of, numbers_in, numbers_of}
 use Rattle.model.specs.Search.{lowest_from}
@@ -37,7 +36,7 @@ helper = 1 ∷ 3 ∷ 0 ∷ 1 ∷ no_callee ∷ 7 ∷ []
 abbrev d : List ℕ
 d = 2 ∷ 2 ∷ caller ++ helper
 
-pub drawn : judge_drawing d ≡ Accepted
+pub drawn : judge_drawing d ≡ Ok tt
 unfolding judge_drawing judge_head judge_graphs judge_last judge_calls judge_counts via calls called_by graph_of rows_up_to one_more row_after inlined_edges inlined_loops
     number_in flat_map table_from lowest_from some_check edition_of numbers_in judge_problem check_problem limits bases kinds jumps counts number_size after_count after_item next_field unwritten
     field_size below_count from_header zero_unwritten in_range edge_before ascends item_start check_from lacks bad_range wrong_edge no_return graph_rules

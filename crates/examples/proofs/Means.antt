@@ -1,5 +1,7 @@
 -- A claim that passes its test holds.
 use Prim.Native.Nat.{ℕ, ◌+◌, ◌-◌, ◌<◌}
+use Rattle.std.specs.Prelude.{Err, Ok, Result}
+use Rattle.model.specs.Refusals.{Verdict}
 use Prim.Native.String.{String}
 use mathlib.Core.Path.{◌≡◌, refl, sym, ap, ◌∙◌, subst}
 use mathlib.Core.List.{List, [], reverse, Memᴰ}
@@ -10,12 +12,6 @@ use lib.ListN.{length, get_or}
 use lib.Dec.{eqb}
 use borrow.Author.Tests.{eqb-true, leb-true}
 use Rattle.model.specs.declared.Refusal.{Refusal}
-use Rattle.model.specs.declared.Verdict.{Verdict}
-use Rattle.model.specs.declared.Verdict.TheVariants as verdict
-use Rattle.model.specs.declared.ReadAnswer.{ReadAnswer}
-use Rattle.model.specs.declared.ReadAnswer.TheVariants as read
-use Rattle.model.specs.declared.BoundAnswer.TheVariants as bound
-use Rattle.model.specs.declared.RunAnswer.TheVariants as run
 use Rattle.model.specs.declared.Problem.{Problem}
 use Rattle.model.specs.Refusals.{number, place}
 use Rattle.model.specs.Graph.{judge_graph}
@@ -40,14 +36,14 @@ use Rattle.examples.proofs.Tables.{member_below, member_is, function_below, memb
 use Rattle.examples.proofs.Reading.{same_is, read_accepts, read_refuses}
 use Rattle.model.specs.Places as places
 
-accepted_is : (v : Verdict) → accepted v ≡ true → v ≡ verdict.Accepted
-accepted_is verdict.Accepted e = refl
-accepted_is (verdict.Refused f) e = true_not_false (sym e)
+accepted_is : (v : Verdict) → accepted v ≡ true → v ≡ Ok tt
+accepted_is (Ok tt) e = refl
+accepted_is (Err f) e = true_not_false (sym e)
 
-refused_as_lem : (n at : ℕ) (v : Verdict) (Says : Refusal → Type 0) → ((f : Refusal) → v ≡ verdict.Refused f → Says f) →
+refused_as_lem : (n at : ℕ) (v : Verdict) (Says : Refusal → Type 0) → ((f : Refusal) → v ≡ Err f → Says f) →
     refused_as n at v ≡ true → RefusedAs n at Says
-refused_as_lem n at verdict.Accepted Says so e = true_not_false (sym e)
-refused_as_lem n at (verdict.Refused f) Says so e =
+refused_as_lem n at (Ok tt) Says so e = true_not_false (sym e)
+refused_as_lem n at (Err f) Says so e =
     (f, so f refl, eqb-true (number f) n (and_left (eqb (number f) n) _ e), eqb-true (place f) at (and_right (eqb (number f) n) _ e))
 
 set_is_lem : (p : Problem) (xs : List ℕ) (v : ℕ) → settled p ≡ true → set_is p xs v ≡ true → v < p.vertex_count →
@@ -112,8 +108,8 @@ runs_mean p layout walk c n ok =
       eqb-true (loads p layout (reverse walk)) n loads_are,
     )
 
-run_refuses : (p : Problem) (layout walk : List ℕ) (f : Refusal) → judge_run p layout walk ≡ verdict.Refused f →
-    run_walk p layout walk ≡ run.Refused f
+run_refuses : (p : Problem) (layout walk : List ℕ) (f : Refusal) → judge_run p layout walk ≡ Err f →
+    run_walk p layout walk ≡ Err f
 unfolding run_walk
 run_refuses p layout walk f e = rw e
 
@@ -136,21 +132,21 @@ prints_mean : (file : List ℕ) (p : Problem) (layout : List ℕ) (need tally fi
 unfolding passes
 prints_mean file p layout need tally first most slip ok =
     let (file_is, (numbers_are, (bytes_are, _))) = each _ ok in
-    let accepted : read.Accepted p ≡ read_file file = sym (reads_mean file p file_is) in
+    let accepted : Ok p ≡ read_file file = sym (reads_mean file p file_is) in
     record {
-      answer = bound.Bounded (given need tally first most);
-      says = subst (λ (a : ReadAnswer). BoundAfter a layout (bound.Bounded (given need tally first most))) accepted (bounds_mean p layout need tally first most numbers_are);
-      bytes = same_is (text slip) _ bytes_are ∙ ap (λ (a : ReadAnswer). slip_bytes a (bound.Bounded (given need tally first most))) accepted;
+      answer = Ok (given need tally first most);
+      says = subst (λ (a : Result Problem Refusal). BoundAfter a layout (Ok (given need tally first most))) accepted (bounds_mean p layout need tally first most numbers_are);
+      bytes = same_is (text slip) _ bytes_are ∙ ap (λ (a : Result Problem Refusal). slip_bytes a (Ok (given need tally first most))) accepted;
     }
 
-refusal_prints : (file : List ℕ) (slip : List ℕ) (a : ReadAnswer) → read_file file ≡ a → refusal_is slip (verdict_of a) ≡ true →
+refusal_prints : (file : List ℕ) (slip : List ℕ) (a : Result Problem Refusal) → read_file file ≡ a → refusal_is slip (verdict_of a) ≡ true →
     (layout : List ℕ) → SlipIs file layout slip
-refusal_prints file slip (read.Accepted p) e ok layout = true_not_false (sym ok)
-refusal_prints file slip (read.Refused f) e ok layout =
+refusal_prints file slip (Ok p) e ok layout = true_not_false (sym ok)
+refusal_prints file slip (Err f) e ok layout =
     record {
-      answer = bound.Refused f;
-      says = subst (λ (a : ReadAnswer). BoundAfter a layout (bound.Refused f)) (sym e) tt;
-      bytes = same_is slip (refusal_line f) ok ∙ ap (λ (a : ReadAnswer). slip_bytes a (bound.Refused f)) (sym e);
+      answer = Err f;
+      says = subst (λ (a : Result Problem Refusal). BoundAfter a layout (Err f)) (sym e) tt;
+      bytes = same_is slip (refusal_line f) ok ∙ ap (λ (a : Result Problem Refusal). slip_bytes a (Err f)) (sym e);
     }
 
 pub means : (c : Claim) → passes c ≡ true → Means c

@@ -1,13 +1,10 @@
 -- The kinds of statement that the documents make of their worked examples, and what each says in the words of the definitions.
-use Rattle.std.specs.Prelude.{ℕ, ◌<◌, ◌≡◌, Bool, ◌↔◌, get_or}
+use Rattle.std.specs.Prelude.{ℕ, ◌<◌, ◌≡◌, Bool, ◌↔◌, get_or, Err, Ok}
 use Prim.Native.String.{String}
 use mathlib.Core.List.{List, [], Memᴰ}
 use Rattle.model.specs.declared.Refusal.{Refusal}
 use Rattle.model.specs.declared.Problem.{Problem}
-use Rattle.model.specs.declared.ReadAnswer.TheVariants as read
 use Rattle.model.specs.declared.Bound.{Bound}
-use Rattle.model.specs.declared.BoundAnswer.TheVariants as bound
-use Rattle.model.specs.declared.RunAnswer.TheVariants as run
 use Rattle.model.specs.Refusals.{number, place}
 use Rattle.model.specs.Zero.{bytes, cycles as cycles_of}
 use Rattle.model.specs.Costs.{function_of}
@@ -52,14 +49,14 @@ given need contested first most = record { need = bytes need; contested = contes
 abbrev pub Means : Claim → Type 0
 Means (sets p each) =
     (v : ℕ) → v < p.vertex_count → (g : ℕ) → Interferes (function_of p) (EdgeOf p) v (function_of p v) g ↔ Memᴰ g (get_or each v [])
-Means (bounds p layout need contested first most) = BoundSays p layout (bound.Bounded (given need contested first most))
+Means (bounds p layout need contested first most) = BoundSays p layout (Ok (given need contested first most))
 Means (second_totals p layout most) =
     (contested : ℕ → Bool) × (early : ℕ → Bool) × (cold : ℕ → Bool) × Told p layout contested early cold × Greatest p (second_total p contested early) most
-Means (bound_refused p layout n at) = RefusedAs n at (λ f. BoundSays p layout (bound.Refused f))
-Means (runs p layout walk c n) = run_walk p layout walk ≡ run.Ran (record { cycles = cycles_of c; loads = n })
-Means (run_refused p layout walk n at) = RefusedAs n at (λ f. run_walk p layout walk ≡ run.Refused f)
+Means (bound_refused p layout n at) = RefusedAs n at (λ f. BoundSays p layout (Err f))
+Means (runs p layout walk c n) = run_walk p layout walk ≡ Ok (record { cycles = cycles_of c; loads = n })
+Means (run_refused p layout walk n at) = RefusedAs n at (λ f. run_walk p layout walk ≡ Err f)
 Means (longest_run p layout c) = Greatest p (cycles p layout) c
-Means (reads file p) = read_file file ≡ read.Accepted p
-Means (read_refused file n at) = RefusedAs n at (λ f. read_file file ≡ read.Refused f)
+Means (reads file p) = read_file file ≡ Ok p
+Means (read_refused file n at) = RefusedAs n at (λ f. read_file file ≡ Err f)
 Means (prints file p layout need contested first most slip) = SlipIs file layout (text slip)
 Means (prints_refusal file slip) = (layout : List ℕ) → SlipIs file layout (text slip)

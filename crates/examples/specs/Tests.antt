@@ -1,12 +1,8 @@
 -- A test of each claim that can be computed. Nobody has to believe it: `means` of proofs/ shows that a claim which passes holds. Walks are searched
 -- one by one, which is meant for problems as small as these.
-use Rattle.std.specs.Prelude.{ℕ, zero, suc, ◌+◌, ◌-◌, List, [], ◌∷◌, reverse, Bool, true, false, cond, not, ◌&&◌, ◌||◌, length, get_or, eqb, ltb, leb}
-use Rattle.model.specs.declared.Verdict.{Verdict}
-use Rattle.model.specs.declared.Verdict.TheVariants as verdict
-use Rattle.model.specs.declared.ReadAnswer.{ReadAnswer}
-use Rattle.model.specs.declared.ReadAnswer.TheVariants as read
-use Rattle.model.specs.declared.FieldsAnswer.{FieldsAnswer}
-use Rattle.model.specs.declared.FieldsAnswer.TheVariants as fields
+use Rattle.std.specs.Prelude.{ℕ, zero, suc, ◌+◌, ◌-◌, List, [], ◌∷◌, reverse, Bool, true, false, cond, not, ◌&&◌, ◌||◌, length, get_or, eqb, ltb, leb, Err, Ok, Result}
+use Rattle.model.specs.Refusals.{Verdict}
+use Rattle.model.specs.declared.Refusal.{Refusal}
 use Rattle.model.specs.declared.Edge.{Edge}
 use Rattle.model.specs.declared.Problem.{Problem}
 use Rattle.model.specs.Refusals.{number, place}
@@ -154,22 +150,22 @@ module _ (p : Problem) where
     cold f = exists_below p.vertex_count (early_of f)
 
 abbrev pub accepted : Verdict → Bool
-accepted verdict.Accepted = true
-accepted (verdict.Refused f) = false
+accepted (Ok _) = true
+accepted (Err f) = false
 
 -- Read's answer without the problem.
-abbrev pub verdict_of : ReadAnswer → Verdict
-verdict_of (read.Accepted p) = verdict.Accepted
-verdict_of (read.Refused f) = verdict.Refused f
+abbrev pub verdict_of : Result Problem Refusal → Verdict
+verdict_of (Ok p) = Ok tt
+verdict_of (Err f) = Err f
 
 abbrev pub refused_as : ℕ → ℕ → Verdict → Bool
-refused_as n at verdict.Accepted = false
-refused_as n at (verdict.Refused f) = eqb (number f) n && eqb (place f) at
+refused_as n at (Ok _) = false
+refused_as n at (Err f) = eqb (number f) n && eqb (place f) at
 
 -- The fields end where the file does.
-abbrev pub done_at : ℕ → FieldsAnswer → Bool
-done_at size (fields.Done at) = not (ltb at size)
-done_at size (fields.Refused f) = false
+abbrev pub done_at : ℕ → Result ℕ Refusal → Bool
+done_at size (Ok at) = not (ltb at size)
+done_at size (Err f) = false
 
 -- The same list.
 unfoldable pub same : List ℕ → List ℕ → Bool
@@ -203,8 +199,8 @@ reads_as file p =
 
 -- The slip of a refusal is this text.
 abbrev pub refusal_is : List ℕ → Verdict → Bool
-refusal_is slip verdict.Accepted = false
-refusal_is slip (verdict.Refused f) = same slip (refusal_line f)
+refusal_is slip (Ok _) = false
+refusal_is slip (Err f) = same slip (refusal_line f)
 
 unfoldable pub passes : Claim → Bool
 passes (sets p each) = passed (settled p ∷ every_below p.vertex_count (λ v. set_is p (get_or each v []) v) ∷ [])

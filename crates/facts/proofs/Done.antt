@@ -1,5 +1,6 @@
 -- Numbers with the facts of the fields pass the checks field by field: the other direction of `field_facts`.
 use Prim.Native.Nat.{ℕ, zero, suc, ◌+◌, ◌-◌, ◌*◌, ◌≤◌, ◌<◌}
+use Rattle.std.specs.Prelude.{Ok}
 use mathlib.Core.Path.{◌≡◌, refl, sym, ◌∙◌}
 use mathlib.Core.List.{List}
 use mathlib.Core.Bool.{true, false}
@@ -8,7 +9,6 @@ use lib.ListN.{get_or}
 use lib.Dec.{eqb, ltb}
 use borrow.Author.Tests.{eq-eqb, ne_eqb, eqb-false, leb-false, lt-ltb, le-leb}
 use Rattle.model.specs.declared.Field.{Field}
-use Rattle.model.specs.declared.FieldsAnswer.TheVariants.{Done}
 use Rattle.model.specs.Table.{limits, bases, kinds, jumps, counts, least, greatest, base, count_over}
 use Rattle.model.specs.Limits.{first_edition}
 use Rattle.model.specs.File.{number_count, at_end, next_field, edition_in, in_range, below_count, from_header, zero_unwritten, ascends, edge_before, check_fields}
@@ -181,5 +181,5 @@ module _ (l : List ℕ) where
         by_bool (at_end c) Good.over
         (λ e. let h = leb-false rows.end c.row e in Good.on e (passes u h) (good_from n (next_used u h)))
 
-    pub facts_done : (need : ℕ) × (check_fields l ≡ Done need)
+    pub facts_done : (need : ℕ) × (check_fields l ≡ Ok need)
     facts_done = good_judged (good_from number_count edition) 0 0

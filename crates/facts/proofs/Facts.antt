@@ -1,9 +1,9 @@
 -- What good numbers satisfy.
 use Prim.Native.Nat.{ℕ, ◌+◌, ◌*◌}
+use Rattle.std.specs.Prelude.{Ok}
 use mathlib.Core.Path.{◌≡◌, refl}
 use mathlib.Core.List.{List}
 use native.Mathlib.Omega.{arith}
-use Rattle.model.specs.declared.FieldsAnswer.TheVariants.{Done}
 use Rattle.model.specs.Table.{limits, bases, counts}
 use Rattle.model.specs.File.{check_fields}
 use Rattle.fields.proofs.Editions.{first_unwritten}
@@ -59,5 +59,5 @@ module _ (l : List ℕ) (good : GoodNumbers l) where
       }
 
 -- The same of numbers that pass the checks of writing.
-pub field_facts : (l : List ℕ) (end : ℕ) → check_fields l ≡ Done end → FieldFacts l
+pub field_facts : (l : List ℕ) (end : ℕ) → check_fields l ≡ Ok end → FieldFacts l
 field_facts l end ok = good_facts l (checked_good l end ok)

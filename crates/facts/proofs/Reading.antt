@@ -1,5 +1,6 @@
 -- What reading leaves is good: each field was judged by the numbers before it, and those stay as they were.
 use Prim.Native.Nat.{ℕ, suc}
+use Rattle.std.specs.Prelude.{Ok}
 use mathlib.Core.Path.{◌≡◌, refl, sym, ◌∙◌}
 use mathlib.Core.List.{List}
 use mathlib.Core.Bool.{true, false}
@@ -8,7 +9,6 @@ use lib.ListN.{length, get_or, set, replicate, length-set, length-replicate}
 use lib.Seq.{get_or-set_same, get_or-set_other}
 use borrow.Author.Tests.{leb-false}
 use Rattle.model.specs.declared.Field.{Field}
-use Rattle.model.specs.declared.FieldsAnswer.TheVariants.{Done}
 use Rattle.model.specs.File.{number_count, first_field, at_end, next_field, in_range, ascends, scanned, read_from, read_fields}
 use Rattle.fields.specs.Valid.{Valid}
 use Rattle.fields.specs.Fill.{fill_from}
@@ -76,10 +76,10 @@ module _ {s : List ℕ} where
 
 module _ (s : List ℕ) where
   pub read_into : (n at start : ℕ) (c : Field) (l : List ℕ) (end : ℕ) (m : List ℕ) → Valid c → length l ≡ number_count →
-      read_from n s at start c l ≡ scanned (Done end) m → ReadInto n c l m
+      read_from n s at start c l ≡ scanned (Ok end) m → ReadInto n c l m
   read_into n at start c l end m f size e = turned f size (reads s end m n at start c l e)
 
   -- What reading a whole file leaves.
-  pub fields_read : (end : ℕ) (l : List ℕ) → read_fields s ≡ scanned (Done end) l → ReadInto number_count first_field (replicate number_count 0) l
+  pub fields_read : (end : ℕ) (l : List ℕ) → read_fields s ≡ scanned (Ok end) l → ReadInto number_count first_field (replicate number_count 0) l
   fields_read end l e =
       read_into number_count 0 0 first_field (replicate number_count 0) end l Valid.edition (length-replicate {A = ℕ} number_count 0) e

@@ -1,11 +1,11 @@
 -- What an edition writes: every number but a check cost of edition 1.
 use Prim.Native.Nat.{ℕ}
+use Rattle.std.specs.Prelude.{Ok}
 use mathlib.Core.Path.{◌≡◌, sym, ◌∙◌}
 use mathlib.Core.List.{List, []}
 use mathlib.Core.Bool.{true, false}
 use lib.Dec.{eqb}
 use borrow.Author.Tests.{eq-eqb, ne_eqb}
-use Rattle.model.specs.declared.Number.TheVariants.{Value}
 use Rattle.model.specs.declared.Field.{Field}
 use Rattle.model.specs.Spelling.{read_number, number_size, number_bytes}
 use Rattle.model.specs.Limits.{first_edition}
@@ -46,7 +46,7 @@ module _ (edition : ℕ) (c : Field) where
     plainly_sized = size_written (sym (other_row n))
 
   module _ (e : unwritten edition c ≡ true) where
-    pub read_unwritten : (s : List ℕ) (at : ℕ) → read_field edition s at c ≡ Value 0 at
+    pub read_unwritten : (s : List ℕ) (at : ℕ) → read_field edition s at c ≡ Ok (0, at)
     unfolding read_field
     read_unwritten s at = simp e
 

@@ -1,10 +1,10 @@
 -- Numbers that were read are good, as the graph checks ask.
 use Prim.Native.Nat.{ℕ}
+use Rattle.std.specs.Prelude.{Ok, Result}
+use Rattle.model.specs.declared.Refusal.{Refusal}
 use mathlib.Core.Path.{◌≡◌, sym, ◌∙◌, ap}
 use mathlib.Core.List.{List}
 use lib.ListN.{length, replicate, length-replicate}
-use Rattle.model.specs.declared.FieldsAnswer.{FieldsAnswer}
-use Rattle.model.specs.declared.FieldsAnswer.TheVariants.{Done}
 use Rattle.model.specs.File.{Scan, scanned, number_count, first_field, read_from, read_fields, check_fields}
 use Rattle.facts.proofs.Judging.{good_judged}
 use Rattle.facts.proofs.Reading.{ReadInto, fields_read}
@@ -20,14 +20,14 @@ module _ (z : List ℕ) (zeros : z ≡ replicate number_count 0) where
   from_zeros s scan is = is ∙ ap (read_from number_count s 0 0 first_field) zeros
 
 -- Numbers that were read are good.
-module _ (s : List ℕ) (f : FieldsAnswer) (l : List ℕ) (is : scanned f l ≡ read_fields s) (end : ℕ) (e : f ≡ Done end) where
+module _ (s : List ℕ) (f : Result ℕ Refusal) (l : List ℕ) (is : scanned f l ≡ read_fields s) (end : ℕ) (e : f ≡ Ok end) where
   into : ReadInto number_count first_field (replicate number_count 0) l
-  into = fields_read s end l (sym is ∙ ap (λ (x : FieldsAnswer). scanned x l) e)
+  into = fields_read s end l (sym is ∙ ap (λ (x : Result ℕ Refusal). scanned x l) e)
 
   pub size_read : length l ≡ number_count
   size_read = into.size
 
-  pub checked_read : (need : ℕ) × (check_fields l ≡ Done need)
+  pub checked_read : (need : ℕ) × (check_fields l ≡ Ok need)
   checked_read = good_judged into.good 0 0
 
   pub facts_read : FieldFacts l

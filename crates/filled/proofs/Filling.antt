@@ -1,26 +1,28 @@
 -- Filling in, function by function: the regions so far, those in use as a word, and that the lowest free one rises.
 use Prim.Native.Nat.{ℕ, zero, suc, ◌+◌, ◌*◌, ◌%◌, ◌^◌, ◌≤◌, ◌<◌}
-use mathlib.Core.Path.{◌≡◌, sym, ap, ◌∙◌, subst}
+use mathlib.Core.Path.{◌≡◌, refl, sym, ap, ◌∙◌, subst}
 use mathlib.Core.List.{List, [], ◌∷◌, ◌++◌}
-use mathlib.Core.Bool.{true, not, ◌||◌}
+use mathlib.Core.Bool.{Bool, true, false, not, ◌||◌}
 use native.Mathlib.Omega.{arith}
 use lib.ListN.{length, get_or, take, set, length-set, length-append, get_or-append}
 use lib.Seq.{get_or-take, length-take-le, get_or-append_seam, get_or-set_same, get_or-set_other}
 use lib.Dec.{eqb, ltb}
 use lib.Bits.{bit_or}
 use borrow.Author.Count.{below_none, below_more}
-use borrow.Author.Tests.{ne_eqb, not-false}
+use borrow.Author.Tests.{ne_eqb}
 use Rattle.model.specs.Limits.{most_regions}
 use Rattle.model.specs.Places.{most_functions}
 use Rattle.model.specs.Search.{exists_below, lowest_below}
 use Rattle.model.specs.Layouts.{taken, lowest_free, filled_in, region_of}
 use Rattle.model.proofs.Lists.{is_table}
-use Rattle.model.proofs.Search.{Searched, start, miss, exists_first, exists_more, lowest_alike, lowest_within, below_lowest}
+use Rattle.model.proofs.Search.{Searched, start, miss, hit, none, exists_first, exists_more, lowest_alike}
 use Rattle.bits.specs.Tests.{has}
 use Rattle.bits.proofs.Bits.{one_shl}
 use Rattle.bits.proofs.Tests.{has_or, has_zero, has_pow}
-use Rattle.model.proofs.Cases.{by_bool}
-use Rattle.filled.specs.Filling.{WithRegion, UsedBelow, Filling, FilledFront}
+use Rattle.model.proofs.Cases.{by_bool, by_order}
+use Rattle.std.specs.Int.{trailing_ones, bit_at, w32}
+use Rattle.std.proofs.lemmas.Nat.Bits.{bit_at-trailing_ones}
+use Rattle.filled.specs.Filling.{WithRegion, Filling, FilledFront}
 use Rattle.filled.proofs.Filled.{filled_table, unlisted}
 
 -- One function more.
@@ -42,16 +44,36 @@ module _ (used region : ℕ) where
   pub one_region : region < most_regions → WithRegion used region (bit_or used ((1 * 2 ^ region) % 2 ^ 32))
   one_region low r h = rw (one_shl region low, has_or used (2 ^ region) r, has_pow region r)
 
--- The search for a region not in use starts above those that are.
-pub searched_from : {used from : ℕ} → UsedBelow used from → Searched most_regions (λ k. not (has used k)) from
-searched_from {used} {from} below = up_to from below.within below.all
+-- The lowest number that passes a test, told by the numbers below it.
+lowest_is : (n t : ℕ) (test : ℕ → Bool) → t ≤ n → ((i : ℕ) → i < t → test i ≡ false) → (t < n → test t ≡ true) → t ≡ lowest_below n test
+lowest_is n t test within missed passes =
+    by_order t n (λ h. hit (up_to t within missed) h (passes h)) (λ h. omega (arith, none (up_to t within missed) h))
   where
-    up_to : (n : ℕ) → n ≤ most_regions → ((r : ℕ) → r < n → has used r ≡ true) → Searched most_regions (λ k. not (has used k)) n
-    up_to zero within all = start _ _
-    up_to (suc n) within all =
-        let next : n + 1 ≡ suc n = omega arith in
-        subst (Searched most_regions (λ k. not (has used k))) next
-        (miss (up_to n (omega arith) (λ r h. all r (omega arith))) (omega arith) (ap not (all n (omega arith))))
+    up_to : (k : ℕ) → k ≤ n → ((i : ℕ) → i < k → test i ≡ false) → Searched n test k
+    up_to zero within missed = start _ _
+    up_to (suc k) within missed =
+        let next : k + 1 ≡ suc k = omega arith in
+        subst (Searched n test) next (miss (up_to k (omega arith) (λ i h. missed i (omega arith))) (omega arith) (missed k (omega arith)))
+
+-- The regions in use, from region 0 on: all of them, or those up to the lowest 0.
+all_used : trailing_ones w32 4294967295 ≡ lowest_below most_regions (λ k. not (has 4294967295 k))
+unfolding has Rattle.model.specs.Search.lowest_from lib.Count.count_trailing_zeros
+all_used = refl
+
+module _ (used : ℕ) where
+  is_used : (k : ℕ) → bit_at used k ≡ 1 → not (has used k) ≡ false
+  unfolding has
+  is_used k e = rw e
+
+  is_free : (k : ℕ) → bit_at used k ≡ 0 → not (has used k) ≡ true
+  unfolding has
+  is_free k e = rw e
+
+  pub free_is : used < 2 ^ 32 → trailing_ones w32 used ≡ lowest_below most_regions (λ k. not (has used k))
+  free_is word =
+      by_order (used + 1) (2 ^ 32)
+      (λ h. let r = bit_at-trailing_ones w32 used h in lowest_is most_regions _ _ (omega (arith, r.0)) (λ i k. is_used i (r.2 i k)) (λ _. is_free _ r.1))
+      (λ h. let e : used ≡ 4294967295 = omega arith in rw e all_used)
 
 -- Before the first function, in an array of any regions.
 pub filling_none : (layout regions : List ℕ) → length regions ≡ most_functions → Filling layout 0 regions 0
@@ -100,19 +122,3 @@ module _ {layout regions : List ℕ} {f used : ℕ} (so_far : Filling layout f r
 pub kept_all : {layout regions : List ℕ} {f count used : ℕ} → f ≤ count → count ≤ f → Filling layout f regions used → Filling layout count regions used
 kept_all {layout} {regions} {f} {count} {used} low high filling =
     let last : f ≡ count = omega arith in subst (λ (n : ℕ). Filling layout n regions used) last filling
-
--- The search goes on from the region that was found.
-pub none_below_zero : (used : ℕ) → UsedBelow used 0
-none_below_zero used = record { within = omega arith; all = below_none _ }
-
-module _ (used lowest region after : ℕ) (lowest_is : lowest ≡ lowest_below most_regions (λ k. not (has used k))) (with : WithRegion used region after) where
-  few_regions : lowest ≤ most_regions
-  few_regions = omega (arith, lowest_within most_regions (λ k. not (has used k)))
-
-  all_below : (r : ℕ) → r < lowest → has after r ≡ true
-  all_below r h =
-      let used_already = not-false (has used r) (below_lowest most_regions (λ k. not (has used k)) r (omega (arith, few_regions)) (omega arith)) in
-      rw (with r (omega (arith, few_regions)), used_already)
-
-  pub still_below : UsedBelow after lowest
-  still_below = record { within = few_regions; all = all_below }

@@ -1,5 +1,5 @@
 -- Filling in a layout, function by function. The regions in use are a word whose bits are their numbers.
-use Rattle.std.specs.Prelude.{ℕ, ◌≤◌, ◌<◌, ◌≡◌, List, true, ◌||◌, length, get_or, take, eqb}
+use Rattle.std.specs.Prelude.{ℕ, ◌≤◌, ◌<◌, ◌≡◌, List, ◌||◌, length, get_or, take, eqb}
 use Rattle.model.specs.Limits.{most_regions}
 use Rattle.model.specs.Places.{most_functions}
 use Rattle.model.specs.Layouts.{taken, filled_in, region_of}
@@ -8,11 +8,6 @@ use Rattle.bits.specs.Tests.{has}
 -- A word with one region more.
 abbrev pub WithRegion : ℕ → ℕ → ℕ → Type 0
 WithRegion used region after = (r : ℕ) → r < most_regions → has after r ≡ (has used r || eqb r region)
-
--- All regions below `from` are in use.
-pub record UsedBelow (used from : ℕ) : Type 0 where
-  pub within : from ≤ most_regions
-  pub all : (r : ℕ) → r < from → has used r ≡ true
 
 -- The first f functions have their regions, and these are in use.
 pub record Filling (layout : List ℕ) (f : ℕ) (regions : List ℕ) (used : ℕ) : Type 0 where

@@ -1,12 +1,12 @@
 // Layouts filled in: each function beyond the layout's end gets, in turn, the lowest region that no earlier function has.
 #![tactic(auto)]
 
-ghost use Rattle.std.specs.Prelude.{◌≡◌, not, ◌≤◌, min, length};
+ghost use Rattle.std.specs.Prelude.{◌≡◌, not, ◌≤◌, length};
 ghost use Rattle.model.specs.Limits.{most_regions};
 ghost use Rattle.model.specs.Places.{most_functions};
 ghost use Rattle.model.specs.Search.{lowest_below};
 ghost use Rattle.bits.specs.Tests.{has};
-ghost use Rattle.filled.specs.Filling.{WithRegion, UsedBelow, Filling, FilledFront};
+ghost use Rattle.filled.specs.Filling.{WithRegion, Filling, FilledFront};
 
 use model::{limits, places};
 
@@ -23,29 +23,11 @@ fn with_region(used: u32, region: u8) -> u32
     used | (1u32 << region)
 }
 
-// The lowest region not in use, where all regions below `from` are.
-fn lowest_free(used: u32, from: u8) -> u8
-    requires { UsedBelow used from }
+// The lowest region not in use.
+fn lowest_free(used: u32) -> u8
     ensures { result ≡ lowest_below most_regions (λ k. not (has used k)) }
 {
-    let mut region = from;
-    while (region as usize) < limits::MOST_REGIONS {
-        if !bits::has_bit(used, region as usize) {
-            return region;
-        }
-        region += 1;
-    }
-    region
-}
-
-// How many of the first n functions the layout lists.
-fn listed_count(layout: &[u8], n: usize) -> usize
-    ensures { result ≡ min (length layout.now) n }
-{
-    if layout.len() < n {
-        return layout.len();
-    }
-    n
+    used.trailing_ones() as u8
 }
 
 // Keeps what the layout lists for the first `count` functions. The regions in use by it.
@@ -55,11 +37,9 @@ fn keep_listed(layout: &[u8], count: usize, regions: &mut Filled) -> u32
     ensures { Filling layout.now count regions.new result }
 {
     let mut used: u32 = 0;
-    let mut f: usize = 0;
-    while f < count {
+    for f in 0..count {
         regions[f] = layout[f];
         used = with_region(used, layout[f]);
-        f += 1;
     }
     used
 }
@@ -69,16 +49,13 @@ pub fn filled_in(layout: &[u8], n: usize) -> Filled
     requires { n ≤ most_functions }
     ensures { FilledFront layout.now n result }
 {
-    let listed = listed_count(layout, n);
+    let listed = layout.len().min(n);
     let mut regions = [0u8; places::MOST_FUNCTIONS];
     let mut used = keep_listed(layout, listed, &mut regions);
-    let mut free: u8 = 0;
-    let mut f = listed;
-    while f < n {
-        free = lowest_free(used, free);
+    for f in listed..n {
+        let free = lowest_free(used);
         regions[f] = free;
         used = with_region(used, free);
-        f += 1;
     }
     regions
 }

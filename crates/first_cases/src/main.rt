@@ -2,7 +2,7 @@
 // several early functions and an inner loop. Then totals next to the limit. Layouts are empty, so that each function has a region of its own.
 #![tactic(auto)]
 
-use model::{BoundAnswer, Problem};
+use model::Problem;
 use prints::{number, text};
 use std::io;
 use std::io::Write;
@@ -11,14 +11,14 @@ fn bounded(out: &mut impl Write, title: &[u8], problem: Problem) -> io::Result<(
     text(out, title)?;
     let answer = bound::bound(problem, b"");
     match answer {
-        BoundAnswer::Bounded(b) => {
+        Ok(b) => {
             number(out, b"\nneed ", b.need.0)?;
             number(out, b"\ncharged ", b.contested as u64)?;
             number(out, b"\nfirst ", b.first.0)?;
             number(out, b"\nbound ", b.bound.0)?;
         }
-        BoundAnswer::Refused(f) => {
-            prints::placed(out, b"\nrefused ", model::number_of(f), model::place_of(f))?;
+        Err(f) => {
+            prints::placed(out, b"\nrefused ", f.number(), f.place())?;
         }
     }
     text(out, b"\n")

@@ -14,6 +14,7 @@ use Rattle.model.proofs.Cases.{by_bool, by_same, true_not_false}
 use Rattle.bits.specs.Words.{Has, Grown, Step, Row, Sound}
 use Rattle.bits.proofs.Steps.{unchanged, neither, grown_more}
 use Rattle.flow.specs.Rounds.{Flow, Waiting, Passed, Flowing, Visited, Underway}
+use Rattle.flow.specs.Laws.{NoMore, Laws}
 use Rattle.flow.specs.Starts.{from, to}
 use Rattle.flow.proofs.Edges.{EdgesFrom, EdgeFrom, start_small, from_first, to_last, edge_from}
 use Rattle.model.specs.Places as places
@@ -47,17 +48,6 @@ module _ {p : Problem} (F : Flow p) where
   -- Edges from u bring only members of `In`.
   abbrev Within : (ℕ → ℕ → Type 0) → ℕ → List ℕ → Type 0
   Within In u ws = (f b : ℕ) → f < F.width → F.Brings ws u f b → In f b
-
-  -- Row u of `after` has no member that it had not in ws.
-  abbrev pub NoMore : ℕ → List ℕ → List ℕ → Type 0
-  NoMore u ws after = (f b : ℕ) → f < F.width → Has after (F.at u f) b → Has ws (F.at u f) b
-
-  -- What a flow satisfies: rows lie apart, what edges from u bring depends on the row of u alone, and they bring only good members.
-  pub record Laws : Type 0 where
-    pub apart : (x v f h : ℕ) → f < F.width → h < F.width → F.at x f ≡ F.at v h → x ≡ v
-    pub local : (ws after : List ℕ) (u : ℕ) → NoMore u ws after → (f b : ℕ) → f < F.width → F.Brings after u f b → F.Brings ws u f b
-    pub good : (ws : List ℕ) → Sound F.Good ws → (i : ℕ) → i < length (edges_of p) → (f b : ℕ) → f < F.width →
-        F.Brings ws (from p i) f b → F.Good (F.at (to p i) f) b
 
 pub not_waiting : {p : Problem} {F : Flow p} {u : ℕ} {marks : List Bool} {ws : List ℕ} → Flowing F marks ws → get_or marks u false ≡ false →
     Visited F u marks ws marks ws false
@@ -121,6 +111,9 @@ module _ {l : List ℕ} {F : Flow (problem_of l)} {begins : List ℕ} {In : ℕ 
     -- The edge whose turn it is.
     pub edge_now : i < get_or begins (u + 1) 0 → EdgeFrom l u i
     edge_now high = edge_from now.visit.edges i now.from_first high
+
+    pub end_small : i < get_or begins (u + 1) 0 → {v : ℕ} → v ≡ to (problem_of l) i → v < places.most_vertices
+    end_small high to_v = omega (arith, to_v, (edge_now high).end_small)
 
     -- Its end v gains the row.
     module _ (high : i < get_or begins (u + 1) 0) {v : ℕ} (to_v : v ≡ to (problem_of l) i) {after : List ℕ} {gained : Bool}

@@ -1,5 +1,5 @@
 -- The walk so far, entry by entry: what goes on from its end goes on from vertex 0.
-use Prim.Native.Nat.{ℕ, suc, ◌+◌, ◌-◌, ◌≤◌, ◌<◌}
+use Prim.Native.Nat.{ℕ, suc, ◌+◌, ◌≤◌, ◌<◌}
 use mathlib.Core.Path.{◌≡◌, refl, sym, ap, subst, ◌∙◌}
 use mathlib.Core.List.{List, [], ◌∷◌, ◌++◌, append-nil}
 use native.Mathlib.Omega.{arith}
@@ -30,11 +30,11 @@ module _ {l begins : List ℕ} {f g : ℕ} {d : List ℕ} {phase room : ℕ} (re
     pub long : length walk ≡ length base
     pub on : (ws : List ℕ) → Falls (problem_of l) f g d s u ws → Falls (problem_of l) f g d phase 0 (done ++ ws)
 
-  pub follow_begun : Following base 0 phase (get_or d phase 0) 0
-  follow_begun = record {
+  pub follow_begun : {left : ℕ} → left ≡ get_or d phase 0 → Following base 0 phase left 0
+  follow_begun all = record {
     there = omega (arith, some_vertex l (facts l ready.leading.checked));
     low = ready.leading.low;
-    number = first_steps d phase;
+    number = omega (arith, first_steps d phase);
     whole = omega (arith, first_steps d phase);
     done = [];
     count = refl;
@@ -51,16 +51,16 @@ module _ {l begins : List ℕ} {f g : ℕ} {d : List ℕ} {phase room : ℕ} (re
     pub next_inside : 0 < left → (n + 1 < room) × (n + 1 < no_way)
     next_inside more = (omega (arith, following.whole, ready.enough), omega (arith, following.whole, ready.leading.way))
 
-    -- k is the function of u, and t the phase after it.
-    module _ {k t : ℕ} (is_k : k ≡ function_of (problem_of l) u) (after : t ≡ phase_after f g k s) (more : 0 < left) where
+    -- k is the function of u, t the phase after it, and `rest` what is left then.
+    module _ {k t rest : ℕ} (is_k : k ≡ function_of (problem_of l) u) (after : t ≡ phase_after f g k s) (one_less : left ≡ suc rest) where
       is_t : t ≡ turn (problem_of l) f g s u
       is_t = after ∙ ap (λ (x : ℕ). phase_after f g x s) is_k
 
-      pub follow_next : Seekable l begins d u t (left - 1)
+      pub follow_next : Seekable l begins d u t rest
       follow_next =
-          let e : steps d u s ≡ suc (left - 1) = omega (arith, following.number) in
+          let e : steps d u s ≡ suc rest = omega (arith, following.number) in
           let (w, edge, near) =
-          back (problem_of l) f g ready.leading.goal d (edges_small l ready.leading.checked) ready.leading.at_rest u s (left - 1) small following.low e
+          back (problem_of l) f g ready.leading.goal d (edges_small l ready.leading.checked) ready.leading.at_rest u s rest small following.low e
           (omega (arith, following.whole, ready.leading.way)) in
           record {
             checked = ready.leading.checked;
@@ -70,7 +70,7 @@ module _ {l begins : List ℕ} {f g : ℕ} {d : List ℕ} {phase room : ℕ} (re
             leads = (w, edge, rw is_t near);
           }
 
-      module _ {w : ℕ} (lowest : Lowest (problem_of l) d u t (left - 1) w) where
+      module _ {w : ℕ} (lowest : Lowest (problem_of l) d u t rest w) where
         pub next_small : w < most_vertices
         next_small = (edges_small l ready.leading.checked u w lowest.edge).1
 
@@ -81,11 +81,11 @@ module _ {l begins : List ℕ} {f g : ℕ} {d : List ℕ} {phase room : ℕ} (re
           least = λ x edge nearer. lowest.least x edge (rw is_t (omega (arith, following.number)));
         }
 
-        pub follow_on : Following (set walk (n + 1) w) w t (left - 1) (n + 1)
-        follow_on = record {
+        pub follow_on : {now : ℕ} → now ≡ rest → Following (set walk (n + 1) w) w t now (n + 1)
+        follow_on is_rest = record {
           there = (edge_below ready.leading.checked lowest.edge).1;
           low = rw is_t (phase_low f g (function_of (problem_of l) u) s following.low);
-          number = lowest.has;
+          number = omega (arith, lowest.has);
           whole = omega (arith, following.whole);
           done = following.done ++ (w ∷ []);
           count = omega (arith, length-append following.done (w ∷ []), following.count);

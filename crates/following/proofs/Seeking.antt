@@ -1,5 +1,5 @@
 -- The first edge from u that leads to the number asked for leads to the lowest such vertex, since the edges from u ascend by their ends.
-use Prim.Native.Nat.{ℕ, zero, suc, ◌+◌, ◌-◌, ◌≤◌, ◌<◌}
+use Prim.Native.Nat.{ℕ, zero, suc, ◌+◌, ◌-◌, ◌*◌, ◌≤◌, ◌<◌}
 use mathlib.Core.Path.{◌≡◌, ap, subst}
 use mathlib.Core.List.{List}
 use mathlib.Core.Bool.{true}
@@ -14,9 +14,9 @@ use Rattle.model.specs.Walks.{EdgeOf}
 use Rattle.model.proofs.Cases.{by_order, by_same}
 use Rattle.model.proofs.Lists.{index_of}
 use Rattle.lookup.proofs.Places.{facts, listed_edge, from_at, to_at}
-use Rattle.flow.specs.Starts.{from, to}
+use Rattle.flow.specs.Starts.{to}
 use Rattle.flow.proofs.Edges.{is_edge, EdgesFrom, EdgeFrom, from_first, to_last, edge_from}
-use Rattle.ways.specs.Ways.{steps}
+use Rattle.ways.specs.Ways.{most_states, steps}
 use Rattle.following.specs.Following.{Seekable, Lowest}
 
 -- Of edges from one vertex the later one has the higher end.
@@ -84,6 +84,10 @@ module _ {l begins : List ℕ} {u : ℕ} (edges : EdgesFrom l begins u) where
     module _ {i : ℕ} (seeking : Seeking i) where
       pub seek_here : EdgeFrom l u i
       seek_here = edge_from edges i seeking.first (omega (arith, seeking.later, seeking.last))
+
+      -- The place of its end's number.
+      pub seek_place : {w : ℕ} → w ≡ to (problem_of l) i → t < 2 → 2 * w + t < most_states
+      seek_place is low = omega (arith, seek_here.end_small)
 
       module _ (miss : steps d (to (problem_of l) i) t ≡ k → ⊥) where
         past : (seeking.hit ≡ i) → ⊥

@@ -39,15 +39,12 @@ pub fn follow(
 {
     let mut u: usize = 0;
     let mut s = phase;
-    let mut left = steps[phase];
-    let mut n: usize = 0;
+    let far = steps[phase];
     walk[0] = 0;
-    while 0 < left {
-        left -= 1;
+    for n in 0..far {
         let t = ways::turn(f, g, lookup::function_of(l, u), s);
-        u = next_vertex(l, begins, steps, u, t, left);
+        u = next_vertex(l, begins, steps, u, t, far - n - 1);
         s = t;
-        n += 1;
-        walk[n] = u as u32;
+        walk[n + 1] = u as u32;
     }
 }

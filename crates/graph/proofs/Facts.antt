@@ -1,5 +1,6 @@
 -- What a graph that passes rules 6 to 9 is like, for the laws of walks.
 use Prim.Native.Nat.{ℕ, ◌+◌, ◌-◌, ◌≤◌, ◌<◌}
+use Rattle.std.specs.Prelude.{Ok}
 use mathlib.Core.Path.{◌≡◌, refl, sym, ap, ◌∙◌}
 use mathlib.Core.List.{List, Memᴰ}
 use mathlib.Core.Bool.{Bool, true, false, not, ◌&&◌, ◌||◌, true≢false, and-eq-true_iff}
@@ -10,7 +11,6 @@ use lib.Dec.{leb, ltb, eqb}
 use borrow.Author.Tests.{not-false, ltb-true, ltb-false, leb-false, eqb-true, lt-ltb, le-leb}
 use Rattle.model.specs.declared.Refusal.{Refusal}
 use Rattle.model.specs.declared.Refusal.TheVariants.{MissingEdge, WrongLoop, WrongEdge, NoEdgeBack}
-use Rattle.model.specs.declared.Verdict.TheVariants.{Accepted}
 use Rattle.model.specs.declared.Edge.{Edge}
 use Rattle.model.specs.declared.Loop.{Loop}
 use Rattle.model.specs.Zero.{zero_edge, zero_loop}
@@ -40,7 +40,7 @@ or_false true b e = absurd (true≢false e)
 or_false false b e = (refl, e)
 
 -- A rule that is not broken is broken nowhere.
-pub kept : (n : ℕ) (test : ℕ → Bool) (refusal : ℕ → Refusal) → broken n test refusal ≡ Accepted → (i : ℕ) → i < n → test i ≡ false
+pub kept : (n : ℕ) (test : ℕ → Bool) (refusal : ℕ → Refusal) → broken n test refusal ≡ Ok tt → (i : ℕ) → i < n → test i ≡ false
 kept n test refusal e i h = by_bool (exists_below n test) (λ q. refused_not_accepted (rw q at e)) (λ q. none_below n test q i h)
 
 -- What is found at no index is found at no member, and what is found at an index is found at a member.
@@ -112,7 +112,7 @@ module _ (n : ℕ) (es : List Edge) (ls : List Loop) where
         let t = (and-eq-true_iff (holds l r.0.from) _).0 r.2 in
         (r.0, r.1, t.0, sym (eqb-true _ _ t.1))
 
-  pub graph_facts : graph_rules n es ls ≡ Accepted → GraphFacts n es ls
+  pub graph_facts : graph_rules n es ls ≡ Ok tt → GraphFacts n es ls
   unfolding graph_rules
   graph_facts e =
       let a = accepted_both (broken n (graph.lacks n es) MissingEdge) _ e in

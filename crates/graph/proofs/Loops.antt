@@ -1,5 +1,6 @@
 -- The loops to lend, and rule 7 told by what a search among them found.
 use Prim.Native.Nat.{ℕ, ◌-◌, ◌≤◌, ◌<◌}
+use Rattle.std.specs.Prelude.{Err}
 use mathlib.Core.Path.{◌≡◌, refl, ◌∙◌}
 use mathlib.Core.List.{List}
 use native.Mathlib.Omega.{arith}
@@ -7,7 +8,6 @@ use lib.ListN.{length, take}
 use borrow.Author.Tests.{lt-ltb, le-ltb}
 use Rattle.model.specs.declared.Edge.{Edge}
 use Rattle.model.specs.declared.Loop.{Loop}
-use Rattle.model.specs.declared.Verdict.TheVariants.{Refused}
 use Rattle.model.specs.declared.Refusal.TheVariants.{WrongLoop, WrongEdge, NoEdgeBack}
 use Rattle.model.specs.Search.{lowest_below}
 use Rattle.model.specs.Graph.{edge, loop, bad_range, wrong_edge, no_return, broken, and_then}
@@ -32,7 +32,7 @@ pub found_of : {ys ls : List Loop} (n : ℕ) → ys ≡ ls → Found ls n (lowes
 found_of n e = rw e (record { lowest = refl; marked = refl })
 
 module _ (es : List Edge) {ls : List Loop} {n bad : ℕ} {marks : List ℕ} (found : Found ls n bad marks) where
-  pub found_bad : bad < length ls → Refused (WrongLoop bad) ≡ loop_rules n es ls
+  pub found_bad : bad < length ls → Err (WrongLoop bad) ≡ loop_rules n es ls
   unfolding bad_at bad_range
   found_bad h = rw (← found.lowest, lt-ltb bad (length ls) h)
 

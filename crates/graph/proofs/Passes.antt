@@ -1,5 +1,6 @@
 -- A graph with the facts of rules 6 to 9 passes them: the other direction of `graph_facts`.
 use Prim.Native.Nat.{ℕ, ◌-◌, ◌≤◌, ◌<◌}
+use Rattle.std.specs.Prelude.{Ok}
 use mathlib.Core.Path.{◌≡◌, sym, ap, ◌∙◌}
 use mathlib.Core.List.{List, Memᴰ}
 use mathlib.Core.Bool.{Bool, true, false, not, ◌&&◌}
@@ -9,7 +10,6 @@ use lib.ListN.{length, get_or}
 use lib.Dec.{leb, ltb, eqb}
 use borrow.Author.Tests.{ltb-true, leb-true, lt-ltb, le-ltb, lt-leb, eq-eqb}
 use Rattle.model.specs.declared.Refusal.{Refusal}
-use Rattle.model.specs.declared.Verdict.TheVariants.{Accepted}
 use Rattle.model.specs.declared.Edge.{Edge}
 use Rattle.model.specs.declared.Loop.{Loop}
 use Rattle.model.specs.Zero.{zero_edge, zero_loop}
@@ -22,7 +22,7 @@ use Rattle.model.proofs.Search.{exists_at, exists_nowhere}
 use Rattle.graph.proofs.Facts.{GraphFacts}
 
 -- A rule that is broken nowhere is not broken.
-unbroken : (n : ℕ) (test : ℕ → Bool) (refusal : ℕ → Refusal) → ((i : ℕ) → i < n → test i ≡ false) → broken n test refusal ≡ Accepted
+unbroken : (n : ℕ) (test : ℕ → Bool) (refusal : ℕ → Refusal) → ((i : ℕ) → i < n → test i ≡ false) → broken n test refusal ≡ Ok tt
 unbroken n test refusal all = rw (exists_nowhere n test all)
 
 -- What is found at a member is found at an index.
@@ -88,7 +88,7 @@ module _ (n : ℕ) (es : List Edge) (ls : List Loop) (facts : GraphFacts n es ls
       let r = facts.returns (loop ls j) (mem-get_or ls j zero_loop h) in
       ap not (found zero_edge es (λ e. graph.returns_to e (loop ls j)) r.0 r.1 (rw (r.2, eq-eqb _ _ (sym r.3))))
 
-  pub facts_graph : graph_rules n es ls ≡ Accepted
+  pub facts_graph : graph_rules n es ls ≡ Ok tt
   unfolding graph_rules
   facts_graph =
       rw (

@@ -1,8 +1,8 @@
 -- Rules 7 to 9, and what is found of the loops for them.
 use Rattle.std.specs.Prelude.{ℕ, ◌-◌, ◌≡◌, List, length}
+use Rattle.model.specs.Refusals.{Verdict}
 use Rattle.model.specs.declared.Edge.{Edge}
 use Rattle.model.specs.declared.Loop.{Loop}
-use Rattle.model.specs.declared.Verdict.{Verdict}
 use Rattle.model.specs.declared.Refusal.TheVariants.{WrongLoop, WrongEdge, NoEdgeBack}
 use Rattle.model.specs.Search.{lowest_below}
 use Rattle.model.specs.Graph.{edge, loop, bad_range, wrong_edge, no_return, broken, and_then}

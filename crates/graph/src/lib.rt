@@ -9,16 +9,16 @@ ghost use Rattle.facts.specs.Fields.{FieldFacts};
 ghost use Rattle.lookup.specs.Lists.{vertices_in, edges_in, loops_in};
 ghost use Rattle.graph.specs.Loops.{Found, loop_rules};
 
-use model::{Loop, Numbers, Refusal, Verdict, places};
+use model::{Loop, Numbers, Refusal, places};
 use ranges::Marks;
 
 // Rules 7 to 9 on what was found of the loops: the lowest that has a bad range, or their number, and their marks.
-fn judge_found(l: &Numbers, bad: usize, marks: Marks) -> Verdict
+fn judge_found(l: &Numbers, bad: usize, marks: Marks) -> Result<(), Refusal>
     requires { FieldFacts l.now × Found (loops_in l.now) (vertices_in l.now) bad marks }
     ensures { result ≡ loop_rules (vertices_in l.now) (edges_in l.now) (loops_in l.now) }
 {
     if bad < lookup::loop_count(l) {
-        return Verdict::Refused(Refusal::WrongLoop(bad as u64));
+        return Err(Refusal::WrongLoop(bad as u64));
     }
     edges::judge_words(l, marks)
 }
@@ -31,7 +31,7 @@ fn last_vertex(l: &Numbers) -> usize
 }
 
 // The loops reach their rules as a lent list. What takes the list is proved by hand, so it only calls.
-fn judge_loops(loops: &[Loop], l: &Numbers) -> Verdict
+fn judge_loops(loops: &[Loop], l: &Numbers) -> Result<(), Refusal>
     requires { FieldFacts l.now × (loops.now ≡ loops_in l.now) }
     ensures { result ≡ loop_rules (vertices_in l.now) (edges_in l.now) (loops_in l.now) }
 {
@@ -43,7 +43,7 @@ fn judge_loops(loops: &[Loop], l: &Numbers) -> Verdict
 }
 
 // Lends the first n of all loops.
-fn judge_lent(all: [Loop; places::MOST_LOOPS], n: usize, l: &Numbers) -> Verdict
+fn judge_lent(all: [Loop; places::MOST_LOOPS], n: usize, l: &Numbers) -> Result<(), Refusal>
     requires { FieldFacts l.now × ((n ≤ most_loops) × (take n all ≡ loops_in l.now)) }
     ensures { result ≡ loop_rules (vertices_in l.now) (edges_in l.now) (loops_in l.now) }
 {
@@ -51,13 +51,10 @@ fn judge_lent(all: [Loop; places::MOST_LOOPS], n: usize, l: &Numbers) -> Verdict
 }
 
 // The graph, a whole rule at a time, each on the good case of the one before.
-pub fn judge(l: &Numbers) -> Verdict
+pub fn judge(l: &Numbers) -> Result<(), Refusal>
     requires { FieldFacts l.now }
     ensures { result ≡ judge_graph (problem_of l.now) }
 {
-    let vertices = entries::judge_vertices(l);
-    let Verdict::Accepted = vertices else {
-        return vertices;
-    };
+    entries::judge_vertices(l)?;
     judge_lent(records::loops_of(l), lookup::loop_count(l), l)
 }

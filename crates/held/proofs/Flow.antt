@@ -1,114 +1,52 @@
--- The flow over the edges: each member that a step adds has a walk, and a table that no edge changes holds all that walks show.
-use Prim.Native.Nat.{ℕ, ◌<◌}
-use mathlib.Core.Path.{◌≡◌, refl, sym, subst, ◌∙◌}
+-- The flow over the edges: a table that no edge changes holds all that walks show, and no more.
+use Prim.Native.Nat.{ℕ}
+use mathlib.Core.Path.{◌≡◌, refl, sym, ◌∙◌}
 use mathlib.Core.List.{List}
-use mathlib.Core.Bool.{Bool, false}
-use mathlib.Core.Logic.{◌⊎◌, inl, inr, ⊎_elim, ◌↔◌}
+use mathlib.Core.Logic.{inl, inr}
 use native.Mathlib.Omega.{arith}
-use lib.ListN.{length, get_or, set, replicate, length-replicate}
-use lib.Dec.{eqb}
-use borrow.Author.Tests.{eqb-true, eqb-false}
+use lib.ListN.{replicate, length-replicate}
 use Rattle.model.specs.declared.Edge.{Edge}
 use Rattle.model.specs.Numbers.{problem_of}
-use Rattle.model.specs.Graph.{edges_of}
 use Rattle.model.specs.Costs.{function_of}
 use Rattle.model.specs.Walks.{EdgeOf}
 use Rattle.model.specs.Layouts.{region_of}
 use Rattle.model.specs.Operations.{Checked}
-use Rattle.model.specs.Results.{Member}
-use Rattle.model.proofs.Cases.{by_bool}
-use Rattle.lookup.proofs.Places.{facts, function_below, from_below}
-use Rattle.sound.specs.Held.{Holds}
-use Rattle.sound.proofs.Held.{held_first, held_further, held_complete}
+use Rattle.sound.proofs.Held.{held_complete}
 use Rattle.bits.specs.Words.{Has, Sound}
 use Rattle.bits.proofs.Steps.{none_in_cleared}
-use Rattle.flow.specs.Rounds.{Closed, Underway}
-use Rattle.flow.specs.Starts.{from, to}
-use Rattle.flow.proofs.Edges.{is_edge, by_number}
-use Rattle.flow.proofs.Reached.{starts}
-use Rattle.flow.proofs.Visits.{Laws, Visiting, begun}
+use Rattle.flow.specs.Rounds.{Closed}
+use Rattle.flow.specs.Starts.{from}
+use Rattle.flow.proofs.Edges.{by_number}
 use Rattle.rivals.specs.Rivals.{RivalTable}
+pub use Rattle.held.specs.Laws.{held_known}
+use Rattle.held.specs.Laws.{start_known}
 use Rattle.held.specs.Flow.{Shown, held_flow, HeldTable}
 use Rattle.model.specs.Places as places
 
-module _ (l : List ℕ) (ok : Checked l) where
-  start_known : (i : ℕ) → i < length (edges_of (problem_of l)) → function_of (problem_of l) (from (problem_of l) i) < (problem_of l).function_count
-  start_known i here = function_below l (facts _ ok) (from (problem_of l) i) (from_below l (facts _ ok) i here)
+module _ (l : List ℕ) (ok : Checked l) (rivals : List ℕ) where
+  pub held_begun : Sound (Shown (problem_of l) rivals) (replicate places.most_vertices 0)
+  held_begun k b h = absurd (none_in_cleared places.most_vertices k b h)
 
-  -- What is held is the function of a vertex on a walk.
-  pub held_known : (layout : List ℕ) (v g : ℕ) → Holds (function_of (problem_of l)) (region_of layout) (EdgeOf (problem_of l)) v g →
-      g < (problem_of l).function_count
-  held_known layout v g (h, walk, e) =
-      held_complete (function_of (problem_of l)) (region_of layout) (EdgeOf (problem_of l)) (λ w x. x < (problem_of l).function_count)
-      (λ u w d. (
-        by_number (problem_of l) (λ (x : Edge). function_of (problem_of l) x.from < (problem_of l).function_count) start_known u w d,
-        λ x other low. low,
-      ))
-      g walk e
-
-  module _ (rivals : List ℕ) where
-    -- A member that edge i brings to its end.
-    module _ (i : ℕ) (here : i < length (edges_of (problem_of l))) (layout : List ℕ) (table : RivalTable (problem_of l) layout rivals) where
-      abbrev MayHold : ℕ → ℕ → Type 0
-      MayHold = Holds (function_of (problem_of l)) (region_of layout) (EdgeOf (problem_of l))
-
-      abbrev start : ℕ
-      start = function_of (problem_of l) (from (problem_of l) i)
-
-      own : (b : ℕ) → start ≡ b → MayHold (to (problem_of l) i) b
-      own b e =
-          let (h, walk) = starts l ok i here in
-          subst (MayHold (to (problem_of l) i)) e
-          (held_first (function_of (problem_of l)) (region_of layout) (EdgeOf (problem_of l)) (from (problem_of l) i) (to (problem_of l) i) h walk
-          (is_edge (problem_of l) i here))
-
-      kept : (b : ℕ) → (Member (get_or rivals start 0) b → ⊥) → MayHold (from (problem_of l) i) b → MayHold (to (problem_of l) i) b
-      kept b free holds =
-          by_bool (eqb start b) (λ t. own b (eqb-true start b t))
-          (λ n.
-          held_further (function_of (problem_of l)) (region_of layout) (EdgeOf (problem_of l)) (from (problem_of l) i) (to (problem_of l) i) b holds
-          (is_edge (problem_of l) i here)
-          (λ same. free ((table.member start (start_known i here) b).1 (eqb-false start b n, held_known layout (from (problem_of l) i) b holds, sym same))))
-
-    pub held_laws : Laws (held_flow (problem_of l) rivals)
-    held_laws = record {
-      apart = λ x v f h lt lt' e. e;
-      local = λ ws after u row f b lt. ⊎_elim inl (λ (free, has). inr (free, row f b lt has));
-      good = λ ws sound i here f b lt gain layout table.
-          ⊎_elim (λ e. own i here layout table b (sym e)) (λ (free, has). kept i here layout table b free (sound (from (problem_of l) i) b has layout table)) gain;
-    }
-
-    pub held_begun : Sound (Shown (problem_of l) rivals) (replicate places.most_vertices 0)
-    held_begun k b h = absurd (none_in_cleared places.most_vertices k b h)
-
-    pub held_table : (after : List ℕ) → Closed (held_flow (problem_of l) rivals) (replicate places.most_vertices 0) after → HeldTable (problem_of l) rivals after
-    held_table after closed = record {
-      long = closed.long ∙ length-replicate {A = ℕ} places.most_vertices 0;
-      member = λ layout table v g. (
-        λ m. closed.sound v g m layout table,
-        λ (h, walk, e). held_complete (function_of (problem_of l)) (region_of layout) (EdgeOf (problem_of l)) (Has after) (settled layout table) g walk e,
-      );
-    }
-      where
-        settled : (layout : List ℕ) → RivalTable (problem_of l) layout rivals → (u v : ℕ) → EdgeOf (problem_of l) u v →
-            Has after v (function_of (problem_of l) u) ×
-            ((g : ℕ) → (region_of layout (function_of (problem_of l) u) ≡ region_of layout g → ⊥) → Has after u g → Has after v g)
-        settled layout table u v d =
-            by_number (problem_of l) (λ (x : Edge).
-            Has after x.to (function_of (problem_of l) x.from) ×
-            ((g : ℕ) → (region_of layout (function_of (problem_of l) x.from) ≡ region_of layout g → ⊥) → Has after x.from g → Has after x.to g))
-            (λ i here. (
-              closed.passed i here 0 _ (omega arith) (inl refl),
-              λ g other has.
-                  closed.passed i here 0 g (omega arith)
-                  (inr (λ rival. other (sym ((table.member (function_of (problem_of l) (from (problem_of l) i)) (start_known i here) g).0 rival).2), has)),
-            ))
-            u v d
-
--- A visit to u, of function g, whose edges bring the members of `add`.
-pub held_visit : {l rivals begins : List ℕ} {u : ℕ} {marks : List Bool} {ws : List ℕ} → Underway l (held_flow (problem_of l) rivals) begins marks ws →
-    u < (problem_of l).vertex_count → (g add : ℕ) → g ≡ function_of (problem_of l) u →
-    ((b : ℕ) → Member add b ↔ ((b ≡ g) ⊎ ((Member (get_or rivals g 0) b → ⊥) × Has ws u b))) →
-    Visiting l (held_flow (problem_of l) rivals) begins (λ f b. Member add b) u (get_or begins u 0) (set marks u false) ws (set marks u false) ws false
-held_visit {l} {rivals} underway there g add is_g members =
-    begun underway there (held_laws l underway.checked rivals) (λ f b lt. (rw is_g at members) b)
+  pub held_table : (after : List ℕ) → Closed (held_flow (problem_of l) rivals) (replicate places.most_vertices 0) after → HeldTable (problem_of l) rivals after
+  held_table after closed = record {
+    long = closed.long ∙ length-replicate {A = ℕ} places.most_vertices 0;
+    member = λ layout table v g. (
+      λ m. closed.sound v g m layout table,
+      λ (h, walk, e). held_complete (function_of (problem_of l)) (region_of layout) (EdgeOf (problem_of l)) (Has after) (settled layout table) g walk e,
+    );
+  }
+    where
+      settled : (layout : List ℕ) → RivalTable (problem_of l) layout rivals → (u v : ℕ) → EdgeOf (problem_of l) u v →
+          Has after v (function_of (problem_of l) u) ×
+          ((g : ℕ) → (region_of layout (function_of (problem_of l) u) ≡ region_of layout g → ⊥) → Has after u g → Has after v g)
+      settled layout table u v d =
+          by_number (problem_of l) (λ (x : Edge).
+          Has after x.to (function_of (problem_of l) x.from) ×
+          ((g : ℕ) → (region_of layout (function_of (problem_of l) x.from) ≡ region_of layout g → ⊥) → Has after x.from g → Has after x.to g))
+          (λ i here. (
+            closed.passed i here 0 _ (omega arith) (inl refl),
+            λ g other has.
+                closed.passed i here 0 g (omega arith)
+                (inr (λ rival. other (sym ((table.member (function_of (problem_of l) (from (problem_of l) i)) (start_known l ok i here) g).0 rival).2), has)),
+          ))
+          u v d

@@ -1,5 +1,7 @@
 -- What the steps of Inline leave: the verdict of 19 on the counts, and where it accepts the one problem's numbers.
 use Prim.Native.Nat.{ℕ, ◌+◌, ◌≤◌, ◌<◌}
+use Rattle.std.specs.Prelude.{Err, Ok}
+use Rattle.model.specs.Refusals.{Verdict}
 use mathlib.Core.Path.{◌≡◌, refl, sym, ap, ap₂, subst, ◌∙◌}
 use mathlib.Core.List.{List, ◌∷◌, flat_map}
 use native.Mathlib.Omega.{arith}
@@ -9,13 +11,9 @@ use lib.Seq.{sets}
 use borrow.Author.Tests.{le-leb, lt-leb}
 use Rattle.model.specs.declared.Refusal.{Refusal}
 use Rattle.model.specs.declared.Refusal.TheVariants.{CountPassed}
-use Rattle.model.specs.declared.Verdict.{Verdict}
-use Rattle.model.specs.declared.Verdict.TheVariants.{Accepted, Refused}
 use Rattle.model.specs.declared.Edge.{Edge}
 use Rattle.model.specs.declared.Loop.{Loop}
 use Rattle.model.specs.declared.Row.{Row}
-use Rattle.model.specs.declared.Problem.{Problem}
-use Rattle.model.specs.declared.InlineAnswer.TheVariants as answer
 use Rattle.model.specs.Places as places
 use Rattle.model.specs.Numbers.{edition_of, numbers_in, problem_of, edge_numbers, loop_numbers}
 use Rattle.model.specs.File.{edition_in}
@@ -48,25 +46,25 @@ module _ (d : List ℕ) where
   ls = inlined_loops d (inlined_rows d)
 
   -- 19 applies where one count passes, and else not.
-  refuses : (l : List ℕ) → Refused (CountPassed 0) ≡ judge_counts d → Built d l (Refused (CountPassed 0))
+  refuses : (l : List ℕ) → Err (CountPassed 0) ≡ judge_counts d → Built d l (Err (CountPassed 0))
   refuses l e = record { counts = e; numbers = λ q. refused_not_accepted q }
 
-  rows_pass : (l : List ℕ) → places.most_vertices < length (inlined_rows d) → Built d l (Refused (CountPassed 0))
+  rows_pass : (l : List ℕ) → places.most_vertices < length (inlined_rows d) → Built d l (Err (CountPassed 0))
   unfolding judge_counts
   rows_pass l h = refuses l (rw (lt-leb (length (inlined_rows d)) places.most_vertices h))
 
-  edges_pass : (l : List ℕ) → length (inlined_rows d) ≤ places.most_vertices → places.most_edges < length es → Built d l (Refused (CountPassed 0))
+  edges_pass : (l : List ℕ) → length (inlined_rows d) ≤ places.most_vertices → places.most_edges < length es → Built d l (Err (CountPassed 0))
   unfolding judge_counts
   edges_pass l r h = refuses l (rw (le-leb (length (inlined_rows d)) places.most_vertices r, lt-leb (length es) places.most_edges h))
 
   loops_pass :
       (l : List ℕ) → length (inlined_rows d) ≤ places.most_vertices → length es ≤ places.most_edges → places.most_loops < length ls →
-      Built d l (Refused (CountPassed 0))
+      Built d l (Err (CountPassed 0))
   unfolding judge_counts
   loops_pass l r q h =
       refuses l (rw (le-leb (length (inlined_rows d)) places.most_vertices r, le-leb (length es) places.most_edges q, lt-leb (length ls) places.most_loops h))
 
-  none_passes : Few d → Accepted ≡ judge_counts d
+  none_passes : Few d → Ok tt ≡ judge_counts d
   unfolding judge_counts
   none_passes F =
       rw (le-leb (length (inlined_rows d)) places.most_vertices F.rows, le-leb (length es) places.most_edges F.edges, le-leb (length ls) places.most_loops F.loops)
@@ -82,7 +80,7 @@ behind_count most place numbers l l' items count put fits =
     ∙ ap (λ (k : ℕ). sets (set l place (length items)) k (flat_map numbers items)) (add-one place)
 
 module _ (d : List ℕ) (facts : DrawingFacts d) (rows : List Row) (count : ℕ) (made : RowsMade d rows count) where
-  pub rows_passed : (l : List ℕ) → places.most_vertices < count → Built d l (Refused (CountPassed 0))
+  pub rows_passed : (l : List ℕ) → places.most_vertices < count → Built d l (Err (CountPassed 0))
   rows_passed l h = rows_pass d l (omega (arith, made.count_is))
 
   module _ (fits : count ≤ places.most_vertices) (l₂ l₃ : List ℕ) (edges : ℕ) (edged : EdgesPut l₂ (inlined_edges d (take count rows)) l₃ edges) where
@@ -92,21 +90,21 @@ module _ (d : List ℕ) (facts : DrawingFacts d) (rows : List Row) (count : ℕ)
     all_edges : EdgesPut l₂ (es d) l₃ edges
     all_edges = subst (λ (s : List Row). EdgesPut l₂ (inlined_edges d s) l₃ edges) made.are edged
 
-    pub edges_passed : (l : List ℕ) → places.most_edges < edges → Built d l (Refused (CountPassed 0))
+    pub edges_passed : (l : List ℕ) → places.most_edges < edges → Built d l (Err (CountPassed 0))
     edges_passed l h = edges_pass d l few_rows (omega (arith, all_edges.count_is))
 
     module _ (few_edges : edges ≤ places.most_edges) (l₄ : List ℕ) (loops : ℕ) (looped : LoopsPut (set l₃ places.edge_count edges) (inlined_loops d (take count rows)) l₄ loops) where
       all_loops : LoopsPut (set l₃ places.edge_count edges) (ls d) l₄ loops
       all_loops = subst (λ (s : List Row). LoopsPut (set l₃ places.edge_count edges) (inlined_loops d s) l₄ loops) made.are looped
 
-      pub loops_passed : (l : List ℕ) → places.most_loops < loops → Built d l (Refused (CountPassed 0))
+      pub loops_passed : (l : List ℕ) → places.most_loops < loops → Built d l (Err (CountPassed 0))
       loops_passed l h = loops_pass d l few_rows (omega (arith, all_edges.count_is)) (omega (arith, all_loops.count_is))
 
       -- All counts fit: the parts stored one after another are the one problem's numbers.
       pub built :
           loops ≤ places.most_loops → (l₀ l₁ : List ℕ) → l₀ ≡ replicate places.end 0 → l₁ ≡ sets l₀ places.scratchpad (head_numbers d) →
           l₂ ≡ sets l₁ places.vertex_count (row_numbers d (take count rows)) → (l₆ : List ℕ) →
-          l₆ ≡ set (set l₄ places.loop_count loops) places.edition (edition_of (problem_of (set l₄ places.loop_count loops))) → Built d l₆ Accepted
+          l₆ ≡ set (set l₄ places.loop_count loops) places.edition (edition_of (problem_of (set l₄ places.loop_count loops))) → Built d l₆ (Ok tt)
       built few_loops l₀ l₁ zeros head vertices l₆ put =
           record { counts = none_passes d F; numbers = λ e. (edition_put (inlined_problem d) (sized d) 0 (set l₄ places.loop_count loops) l₆ stored put).is }
         where
@@ -130,78 +128,65 @@ module _ (d : List ℕ) (facts : DrawingFacts d) (rows : List Row) (count : ℕ)
 abbrev pub judge_drawn : List ℕ → Verdict
 judge_drawn d = and_then (judge_head d) (and_then (judge_graphs d) (and_then (judge_last d) (judge_calls d)))
 
-then_counts : (a b c e k : Verdict) → and_then a (and_then b (and_then c e)) ≡ Accepted → and_then a (and_then b (and_then c (and_then e k))) ≡ k
-then_counts Accepted Accepted Accepted Accepted k q = refl
-then_counts Accepted Accepted Accepted (Refused r) k q = refused_not_accepted q
-then_counts Accepted Accepted (Refused r) e k q = refused_not_accepted q
-then_counts Accepted (Refused r) c e k q = refused_not_accepted q
-then_counts (Refused r) b c e k q = refused_not_accepted q
+-- Checks one after another, the last apart.
+one_behind : (a b c e k : Verdict) → and_then a (and_then b (and_then c (and_then e k))) ≡ and_then (and_then a (and_then b (and_then c e))) k
+one_behind (Ok _) (Ok _) (Ok _) e k = refl
+one_behind (Ok _) (Ok _) (Err r) e k = refl
+one_behind (Ok _) (Err r) c e k = refl
+one_behind (Err r) b c e k = refl
 
-then_refused : (a b c e k : Verdict) (r : Refusal) → and_then a (and_then b (and_then c e)) ≡ Refused r → and_then a (and_then b (and_then c (and_then e k))) ≡ Refused r
-then_refused Accepted Accepted Accepted Accepted k r q = refused_not_accepted (sym q)
-then_refused Accepted Accepted Accepted (Refused x) k r q = q
-then_refused Accepted Accepted (Refused x) e k r q = q
-then_refused Accepted (Refused x) c e k r q = q
-then_refused (Refused x) b c e k r q = q
+-- The stages before 19 and then 19 say what all checks say.
+says : (d : List ℕ) (v w : Verdict) → v ≡ judge_drawn d → w ≡ and_then v (judge_counts d) → w ≡ judge_drawing d
+unfolding judge_drawing
+says d v w is e =
+    e
+    ∙ ap (λ (x : Verdict). and_then x (judge_counts d)) is
+    ∙ sym (one_behind (judge_head d) (judge_graphs d) (judge_last d) (judge_calls d) (judge_counts d))
 
--- The drawing passed them.
-pub stages_facts : (d : List ℕ) → judge_drawn d ≡ Accepted → DrawingFacts d
+-- The drawing passed the stages before 19.
+pub stages_facts : (d : List ℕ) → Ok tt ≡ judge_drawn d → DrawingFacts d
 stages_facts d e =
-    let (head, rest) = accepted_both (judge_head d) _ e in
+    let (head, rest) = accepted_both (judge_head d) _ (sym e) in
     let (graphs, more) = accepted_both (judge_graphs d) _ rest in
     drawing_facts d head graphs (accepted_both (judge_last d) _ more).0
 
 module _ (d l : List ℕ) where
   -- A stage before 19 refuses.
-  pub stage_refuses : (v : Verdict) (r : Refusal) → v ≡ judge_drawn d → v ≡ Refused r → NumbersInlined d l v
-  unfolding inline_drawing judge_drawing
-  stage_refuses v r is e =
+  pub stage_refuses : (r : Refusal) → Err r ≡ judge_drawn d → NumbersInlined d l (Err r)
+  unfolding inline_drawing
+  stage_refuses r is =
       record {
-        answer = ap (λ (w : Verdict). inline_verdict w (problem_of l)) e ∙ sym (ap (λ (w : Verdict). inline_verdict w (inlined_problem d)) (then_refused (judge_head d) (judge_graphs d) (judge_last d) (judge_calls d) (judge_counts d) r (sym is ∙ e)));
-        checked = λ q. refused_not_accepted (sym e ∙ q);
-        edition = λ q. refused_not_accepted (sym e ∙ q);
+        answer = ap (λ (w : Verdict). inline_verdict w (inlined_problem d)) (says d (Err r) (Err r) is refl);
+        checked = refused_not_accepted;
+        edition = refused_not_accepted;
       }
 
   -- What is left is 19.
-  pub numbers_inlined : (v : Verdict) → judge_drawn d ≡ Accepted → Built d l v → NumbersInlined d l v
-  unfolding inline_drawing judge_drawing
-  numbers_inlined v good b = by v refl
+  pub numbers_inlined : (v : Verdict) → Ok tt ≡ judge_drawn d → Built d l v → NumbersInlined d l v
+  unfolding inline_drawing
+  numbers_inlined (Err r) good b =
+      record {
+        answer = ap (λ (w : Verdict). inline_verdict w (inlined_problem d)) (says d (Ok tt) (Err r) good b.counts);
+        checked = refused_not_accepted;
+        edition = refused_not_accepted;
+      }
+  numbers_inlined (Ok tt) good b =
+      record {
+        answer = ap Ok own ∙ ap (λ (w : Verdict). inline_verdict w (inlined_problem d)) judged;
+        checked = λ e. checked;
+        edition = λ e. ap edition_in numbered.is ∙ own_edition (edition_of (inlined_problem d)) (inlined_problem d) ∙ ap edition_of (sym own);
+      }
     where
-      judged : (w : Verdict) → v ≡ w → judge_drawing d ≡ w
-      judged w e = then_counts (judge_head d) (judge_graphs d) (judge_last d) (judge_calls d) (judge_counts d) good ∙ sym b.counts ∙ e
+      judged : Ok tt ≡ judge_drawing d
+      judged = says d (Ok tt) (Ok tt) good b.counts
 
-      numbered : v ≡ Accepted → Numbered (inlined_problem d) l
-      numbered e = record { is = b.numbers e; sized = sized d }
+      numbered : Numbered (inlined_problem d) l
+      numbered = record { is = b.numbers refl; sized = sized d }
 
-      own : v ≡ Accepted → problem_of l ≡ inlined_problem d
-      own e = same_problem (inlined_problem d) l (numbered e)
+      own : problem_of l ≡ inlined_problem d
+      own = same_problem (inlined_problem d) l numbered
 
-      checked : v ≡ Accepted → Checked l
-      checked e =
-          let n = numbered e in
-          opened (inlined_problem d) l n (judge_numbers l) refl (judges_problem (inlined_problem d) l n (judge_numbers l) refl ∙ inlined_accepted d (inlines d (judged Accepted e)))
-
-      by : (w : Verdict) → v ≡ w → NumbersInlined d l v
-      by Accepted e =
-          record {
-            answer =
-                ap (λ (w : Verdict). inline_verdict w (problem_of l)) e
-                ∙ ap (λ p. inline_verdict Accepted p) (own e)
-                ∙ sym (ap (λ (w : Verdict). inline_verdict w (inlined_problem d)) (judged Accepted e));
-            checked = checked;
-            edition = λ q. ap edition_in (b.numbers q) ∙ own_edition (edition_of (inlined_problem d)) (inlined_problem d) ∙ ap edition_of (sym (own q));
-          }
-      by (Refused r) e =
-          record {
-            answer = ap (λ (w : Verdict). inline_verdict w (problem_of l)) e ∙ sym (ap (λ (w : Verdict). inline_verdict w (inlined_problem d)) (judged (Refused r) e));
-            checked = λ q. refused_not_accepted (sym e ∙ q);
-            edition = λ q. refused_not_accepted (sym e ∙ q);
-          }
-
--- Inline's answer, made of the numbers.
-module _ (d l : List ℕ) (v : Verdict) (r : NumbersInlined d l v) where
-  pub no_problem : (f : Refusal) → v ≡ Refused f → answer.Refused f ≡ inline_drawing d
-  no_problem f e = ap (λ (w : Verdict). inline_verdict w (problem_of l)) (sym e) ∙ r.answer
-
-  pub whole_problem : v ≡ Accepted → (p : Problem) → p ≡ problem_of l → answer.Accepted p ≡ inline_drawing d
-  whole_problem e p z = ap answer.Accepted z ∙ ap (λ (w : Verdict). inline_verdict w (problem_of l)) (sym e) ∙ r.answer
+      checked : Checked l
+      checked =
+          opened (inlined_problem d) l numbered (judge_numbers l) refl
+          (judges_problem (inlined_problem d) l numbered (judge_numbers l) refl ∙ inlined_accepted d (inlines d (sym judged)))

@@ -1,16 +1,14 @@
 -- **Inline's claims** (2/14): runs of a drawn program with a call stack match the walks of its one problem one for one, take the same cycles, and keep
 -- within its bound; and that problem passes document 01's checks.
-use Prim.Native.Nat.{ℕ, suc, ◌-◌, ◌≤◌}
+use Prim.Native.Nat.{ℕ, suc, ◌≤◌}
+use Rattle.std.specs.Prelude.{Err, Ok}
+use Rattle.model.specs.Refusals.{Verdict}
 use mathlib.Core.Path.{◌≡◌, refl, ap, subst, ◌∙◌}
 use mathlib.Core.List.{List, [], ◌∷◌, map}
 use mathlib.Core.Logic.{◌↔◌}
 use native.Mathlib.Omega.{arith}
 use Rattle.model.specs.declared.Bound.{Bound}
-use Rattle.model.specs.declared.BoundAnswer.TheVariants.{Bounded}
 use Rattle.model.specs.declared.Problem.{Problem}
-use Rattle.model.specs.declared.Verdict.{Verdict}
-use Rattle.model.specs.declared.Verdict.TheVariants as verdict
-use Rattle.model.specs.declared.InlineAnswer.TheVariants.{Accepted}
 use Rattle.model.specs.Graph.{loops_of}
 use Rattle.model.specs.Costs.{function_of, own_cost}
 use Rattle.model.specs.Walks.{EdgeOf, last_vertex, Walk, start, step, Within, Lawful}
@@ -80,15 +78,15 @@ module _ (d : List ℕ) (I : Inlines d) where
       at_end_lem walk s e = ap (vertex_of d) e ∙ (let q : vertex_of d (stack (frame 0 (last_vertex (graph_of d 0)) walk) []) ≡ last_vertex (inlined_problem d) = omega (arith, end_stack d (size d) D walk, last_is d I) in q)
 
 -- An accepted drawing, and its problem.
-accepted_is : (d : List ℕ) (q : Problem) → inline_drawing d ≡ Accepted q → (judge_drawing d ≡ verdict.Accepted) × (inlined_problem d ≡ q)
+accepted_is : (d : List ℕ) (q : Problem) → inline_drawing d ≡ Ok q → (judge_drawing d ≡ Ok tt) × (inlined_problem d ≡ q)
 unfolding inline_drawing
 accepted_is d q e = at (judge_drawing d) refl e
   where
-    at : (v : Verdict) → judge_drawing d ≡ v → inline_verdict v (inlined_problem d) ≡ Accepted q → (judge_drawing d ≡ verdict.Accepted) × (inlined_problem d ≡ q)
-    at verdict.Accepted j x = (j, cc)
-    at (verdict.Refused f) j x = let z : ◌≡◌ {A = ℕ} 0 1 = cc in absurd (omega arith)
+    at : (v : Verdict) → judge_drawing d ≡ v → inline_verdict v (inlined_problem d) ≡ Ok q → (judge_drawing d ≡ Ok tt) × (inlined_problem d ≡ q)
+    at (Ok tt) j x = (j, cc)
+    at (Err f) j x = let z : ◌≡◌ {A = ℕ} 0 1 = cc in absurd (omega arith)
 
-module _ (d : List ℕ) (q : Problem) (accepted : inline_drawing d ≡ Accepted q) where
+module _ (d : List ℕ) (q : Problem) (accepted : inline_drawing d ≡ Ok q) where
   of_one : (P : Problem → Type 0) → (Inlines d → P (inlined_problem d)) → P q
   of_one P f = let (good, is) = accepted_is d q accepted in subst P is (f (inlines d good))
 
@@ -102,7 +100,7 @@ module _ (d : List ℕ) (q : Problem) (accepted : inline_drawing d ≡ Accepted 
 
   -- So the bound holds for the drawn program: no lawful run of it, of any length, takes more cycles.
   pub drawn_within_bound :
-      (layout : List ℕ) (b : Bound) → BoundSays q layout (Bounded b) →
+      (layout : List ℕ) (b : Bound) → BoundSays q layout (Ok b) →
       (walk : List ℕ) (h : List Stack) → LawfulRun d walk h → stack_cycles d layout (stack (frame 0 (last_vertex (graph_of d 0)) walk) [] ∷ h) ≤ b.bound.0
   drawn_within_bound layout b says walk h lawful =
       let r = lawful.run in
@@ -116,5 +114,5 @@ module _ (d : List ℕ) (q : Problem) (accepted : inline_drawing d ≡ Accepted 
       omega (arith, same_cycles layout r ∙ ap (λ (v : ℕ). cycles q layout (v ∷ map (vertex_of d) h)) at_last_lem, covered)
 
   -- No operation on the one problem answers 3 to 9.
-  pub inlined_accepted : judge_problem q ≡ verdict.Accepted
-  inlined_accepted = of_one (λ x. judge_problem x ≡ verdict.Accepted) (inlined.inlined_accepted d)
+  pub inlined_accepted : judge_problem q ≡ Ok tt
+  inlined_accepted = of_one (λ x. judge_problem x ≡ Ok tt) (inlined.inlined_accepted d)

@@ -2,18 +2,13 @@
 ghost use Rattle.model.specs.Operations.{Checked};
 ghost use Rattle.facts.specs.Fields.{FieldFacts};
 
-use model::{BoundAnswer, Drawing, Numbers, Refusal, RunAnswer, Verdict, limits, places};
+use model::{Bound, Drawing, Numbers, Refusal, Run, limits, places};
 use prints::{number, text};
 use std::io;
 use std::io::Write;
 
 fn refusal(out: &mut impl Write, refusal: Refusal) -> io::Result<()> {
-    prints::placed(
-        out,
-        b" refused ",
-        model::number_of(refusal),
-        model::place_of(refusal),
-    )
+    prints::placed(out, b" refused ", refusal.number(), refusal.place())
 }
 
 // Each vertex's function and own cost, as ` 0:10`.
@@ -68,18 +63,18 @@ fn counts(out: &mut impl Write, l: &Numbers) -> io::Result<()> {
     number(out, b", loops ", l[places::LOOP_COUNT])
 }
 
-fn bounded(out: &mut impl Write, answer: BoundAnswer) -> io::Result<()> {
+fn bounded(out: &mut impl Write, answer: Result<Bound, Refusal>) -> io::Result<()> {
     match answer {
-        BoundAnswer::Bounded(b) => number(out, b": bound ", b.bound.0)?,
-        BoundAnswer::Refused(f) => refusal(out, f)?,
+        Ok(b) => number(out, b": bound ", b.bound.0)?,
+        Err(f) => refusal(out, f)?,
     }
     Ok(())
 }
 
-fn ran(out: &mut impl Write, answer: RunAnswer) -> io::Result<()> {
+fn ran(out: &mut impl Write, answer: Result<Run, Refusal>) -> io::Result<()> {
     match answer {
-        RunAnswer::Ran(run) => number(out, b", run ", run.cycles.0)?,
-        RunAnswer::Refused(f) => refusal(out, f)?,
+        Ok(run) => number(out, b", run ", run.cycles.0)?,
+        Err(f) => refusal(out, f)?,
     }
     Ok(())
 }
@@ -130,11 +125,11 @@ pub fn worked(
     let mut numbers = [0u64; places::END];
     let verdict = inline::inline_numbers(d, &mut numbers);
     match verdict {
-        Verdict::Accepted => {
+        Ok(()) => {
             problem(out, &numbers)?;
             prices(out, &numbers, layouts, walk)?;
         }
-        Verdict::Refused(f) => refusal(out, f)?,
+        Err(f) => refusal(out, f)?,
     }
     text(out, b"\n")
 }
@@ -145,8 +140,8 @@ pub fn counted(out: &mut impl Write, title: &[u8], d: &Drawing) -> io::Result<()
     let mut numbers = [0u64; places::END];
     let verdict = inline::inline_numbers(d, &mut numbers);
     match verdict {
-        Verdict::Accepted => counts(out, &numbers)?,
-        Verdict::Refused(f) => refusal(out, f)?,
+        Ok(()) => counts(out, &numbers)?,
+        Err(f) => refusal(out, f)?,
     }
     text(out, b"\n")
 }

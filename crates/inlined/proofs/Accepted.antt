@@ -1,10 +1,10 @@
 -- The inlined problem of an accepted drawing passes document 01's checks: no operation on it answers 3 to 9.
 use Prim.Native.Nat.{ℕ}
+use Rattle.std.specs.Prelude.{Ok, Result}
+use Rattle.model.specs.Refusals.{Verdict}
+use Rattle.model.specs.declared.Refusal.{Refusal}
 use mathlib.Core.Path.{◌≡◌, ap, ◌∙◌}
 use mathlib.Core.List.{List}
-use Rattle.model.specs.declared.Verdict.{Verdict}
-use Rattle.model.specs.declared.Verdict.TheVariants.{Accepted}
-use Rattle.model.specs.declared.FieldsAnswer.{FieldsAnswer}
 use Rattle.model.specs.Numbers.{numbers_of}
 use Rattle.model.specs.Graph.{judge_graph}
 use Rattle.model.specs.Operations.{after_graph, after_fields, check_problem}
@@ -30,7 +30,7 @@ pub record Inlines (d : List ℕ) : Type 0 where
   pub drawn : Drawn d (size d)
   pub few : Few d
 
-pub inlines : (d : List ℕ) → judge_drawing d ≡ Accepted → Inlines d
+pub inlines : (d : List ℕ) → judge_drawing d ≡ Ok tt → Inlines d
 unfolding judge_drawing
 inlines d e =
     let (head, e₁) = accepted_both (judge_head d) _ e in
@@ -44,13 +44,13 @@ module _ (d : List ℕ) (I : Inlines d) where
   pub all_rows : Whole d (size d) I.drawn (inlined_rows d)
   all_rows = whole d (size d) I.drawn I.few.rows
 
-  graph_accepted : judge_graph (inlined_problem d) ≡ Accepted
+  graph_accepted : judge_graph (inlined_problem d) ≡ Ok tt
   unfolding inlined_problem
   graph_accepted = rw (edges_of_lem d I.few, loops_of_lem d I.few) (facts_graph _ _ _ (graph_facts d I.facts I.lawful (size d) I.drawn (inlined_rows d) all_rows))
 
-  pub inlined_accepted : judge_problem (inlined_problem d) ≡ Accepted
+  pub inlined_accepted : judge_problem (inlined_problem d) ≡ Ok tt
   unfolding judge_problem check_problem
   inlined_accepted =
       let (need, done) = facts_done (numbers_of (inlined_problem d)) (field_facts d I.few I.facts I.lawful (size d) I.drawn) in
-      ap (λ (f : FieldsAnswer). as_verdict (after_fields f (inlined_problem d))) done
+      ap (λ (f : Result ℕ Refusal). as_verdict (after_fields f (inlined_problem d))) done
       ∙ ap (λ (v : Verdict). as_verdict (after_graph v need)) graph_accepted

@@ -3,7 +3,7 @@ use Prim.Native.Nat.{ℕ, suc, ◌+◌, ◌-◌, ◌≤◌, ◌<◌}
 use mathlib.Core.Path.{◌≡◌, refl, sym, ap, subst, ◌∙◌}
 use mathlib.Core.List.{List, [], ◌∷◌, Memᴰ}
 use mathlib.Core.Bool.{Bool, true, false, cond}
-use mathlib.Core.Option.{Option, some, none}
+use Rattle.std.specs.Prelude.{Option, Some, None}
 use native.Mathlib.Omega.{arith}
 use lib.ListN.{length}
 use lib.Dec.{eqb}
@@ -93,7 +93,7 @@ module _ (d : List ℕ) (size : ℕ → ℕ) (D : Drawn d size) (leaves : (f v w
   unfolding number base pos
   listed_step i (spot f v c) x p is m = by_callee (called_by d f v) refl m
     where
-      returns : (o : Callers) → Fits d f o → called_by d f v ≡ none → drawn_count d f ≤ v + 1
+      returns : (o : Callers) → Fits d f o → called_by d f v ≡ None → drawn_count d f ≤ v + 1
           → Memᴰ x (cond (eqb (base d size o) 0) [] (leaving d rows i (row_at rows (base d size o - 1)))) → Goes i (spot f v o) x
       returns nobody fits e h n = elim n [ ]
       returns (from g u o) fits e h n =
@@ -101,19 +101,19 @@ module _ (d : List ℕ) (size : ℕ → ℕ) (D : Drawn d size) (leaves : (f v w
           let end : suc v ≡ drawn_count d f = omega (arith, p.0) in
           (spot g r.0 o, back end r.1, r.2)
 
-      quiet : called_by d f v ≡ none → Memᴰ x (out_of d rows i (row f v (base d size c))) → Goes i (spot f v c) x
+      quiet : called_by d f v ≡ None → Memᴰ x (out_of d rows i (row f v (base d size c))) → Goes i (spot f v c) x
       quiet e n = by_order (v + 1) (drawn_count d f)
           (λ h. let r = leaving_along i f v c p.1 x (rw (lt-ltb (v + 1) (drawn_count d f) h) at n) in (spot f r.0 c, go e r.1, r.2))
           (λ h. returns c p.1 e h (rw (le-ltb (v + 1) (drawn_count d f) h) at n))
 
-      first : (g : ℕ) → called_by d f v ≡ some g → x ≡ edge i (i + 1) → Goes i (spot f v c) x
+      first : (g : ℕ) → called_by d f v ≡ Some g → x ≡ edge i (i + 1) → Goes i (spot f v c) x
       first g e q =
           let next : i + 1 ≡ base d size c + pos d size f v + 1 + 0 = omega arith in
           (spot g 0 (from f v c), call e, q ∙ ap (edge i) next)
 
       by_callee : (o : Option ℕ) → called_by d f v ≡ o → Memᴰ x (edges_from d rows o i (row f v (base d size c))) → Goes i (spot f v c) x
-      by_callee (some g) e n = first g e (in_one n)
-      by_callee none e n = quiet e n
+      by_callee (Some g) e n = first g e (in_one n)
+      by_callee None e n = quiet e n
 
   -- What row i lists, and the list of all.
   abbrev pub parts : ℕ → List Edge

@@ -3,7 +3,7 @@ use Prim.Native.Nat.{ℕ, suc, ◌+◌, ◌-◌, ◌<◌}
 use mathlib.Core.Path.{◌≡◌, refl, sym, ap, subst, ◌∙◌}
 use mathlib.Core.List.{List, [], ◌∷◌, Memᴰ}
 use mathlib.Core.Bool.{Bool, true, false, cond}
-use mathlib.Core.Option.{Option, some, none}
+use Rattle.std.specs.Prelude.{Option, Some, None}
 use mathlib.Core.Logic.{◌⊎◌, inl, inr}
 use native.Mathlib.Omega.{arith}
 use native.Mathlib.Numerals.{add-one}
@@ -106,8 +106,8 @@ module _ (d : List ℕ) (facts : DrawingFacts d) (size : ℕ → ℕ) (D : Drawn
   listed_ascends i (spot f v c) p = by_callee (called_by d f v)
     where
       by_callee : (o : Option ℕ) → Ascending Before (edges_from d rows o i (row f v (base d size c)))
-      by_callee (some g) = one_ascends Before _
-      by_callee none =
+      by_callee (Some g) = one_ascends Before _
+      by_callee None =
           either_ascends (ltb (v + 1) (drawn_count d f)) (leaving d rows i (row f v (base d size c))) (cond (eqb (base d size c) 0) [] (leaving d rows i (row_at rows (base d size c - 1))))
           (leaving_ascends i f v c p.1) (returns_ascend i f c p.1)
 

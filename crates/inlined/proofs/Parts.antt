@@ -1,5 +1,6 @@
 -- The parts of the inlined problem, where 19 does not apply: its lists without spare places are those of the definition.
 use Prim.Native.Nat.{ℕ, ◌≤◌, ◌<◌}
+use Rattle.std.specs.Prelude.{Ok}
 use mathlib.Core.Path.{◌≡◌, refl, sym, ap, ◌∙◌}
 use mathlib.Core.List.{List}
 use mathlib.Core.Bool.{Bool, true, ◌&&◌}
@@ -7,7 +8,6 @@ use native.Mathlib.Omega.{arith}
 use lib.ListN.{length, get_or, take}
 use lib.Seq.{ext_get_or}
 use borrow.Author.Tests.{leb-true}
-use Rattle.model.specs.declared.Verdict.TheVariants.{Accepted}
 use Rattle.model.specs.declared.Function.{Function}
 use Rattle.model.specs.declared.Vertex.{Vertex}
 use Rattle.model.specs.Zero.{zero_function, zero_vertex, zero_edge, zero_loop}
@@ -31,7 +31,7 @@ pub record Few (d : List ℕ) : Type 0 where
 all_three : (a b c : Bool) → a && (b && c) ≡ true → (a ≡ true) × (b ≡ true) × (c ≡ true)
 all_three a b c e = (and_left a (b && c) e, and_left b c (and_right a (b && c) e), and_right b c (and_right a (b && c) e))
 
-pub few : (d : List ℕ) → judge_counts d ≡ Accepted → Few d
+pub few : (d : List ℕ) → judge_counts d ≡ Ok tt → Few d
 unfolding judge_counts
 few d e =
     by_bool _

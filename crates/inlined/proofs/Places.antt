@@ -1,5 +1,5 @@
 -- Vertex w of the copy that begins at a number is found where its state is numbered.
-use Prim.Native.Nat.{ℕ, ◌-◌, ◌≤◌, ◌<◌}
+use Prim.Native.Nat.{ℕ, ◌≤◌, ◌<◌}
 use mathlib.Core.Path.{◌≡◌, refl, sym, ap, ◌∙◌}
 use mathlib.Core.List.{List}
 use mathlib.Core.Bool.{Bool, true, ◌&&◌}
@@ -11,7 +11,7 @@ use Rattle.model.specs.declared.Row.{Row}
 use Rattle.model.specs.Places as places
 use Rattle.model.specs.Search.{lowest_below}
 use Rattle.model.specs.Drawings.{drawn_count}
-use Rattle.model.specs.Inlining.{row, row_at, number_in}
+use Rattle.model.specs.Inlining.{row_at, number_in}
 use Rattle.model.specs.Inlined.{inlined_rows}
 use Rattle.model.proofs.Cases.{and_left, and_right}
 use Rattle.model.proofs.Search.{exists_at, lowest_passes}

@@ -2,7 +2,7 @@
 use Prim.Native.Nat.{ℕ, zero, suc, ◌+◌, ◌-◌, ◌≤◌, ◌<◌, min}
 use mathlib.Core.Path.{◌≡◌, refl, sym, ap, ◌∙◌}
 use mathlib.Core.List.{List, [], ◌∷◌, ◌++◌}
-use mathlib.Core.Option.{Option, some, none}
+use Rattle.std.specs.Prelude.{Option, Some, None}
 use mathlib.Core.Logic.{◌⊎◌, inl, inr}
 use native.Mathlib.Omega.{arith}
 use native.Mathlib.Numerals.{add-one}
@@ -24,24 +24,24 @@ row_of d size (spot f v c) = row f v (base d size c)
 module _ (d : List ℕ) (size : ℕ → ℕ) (D : Drawn d size) where
   -- What follows the state with number i: its next one, or nothing behind the last.
   abbrev Follows : ℕ → State → Option Row → Type 0
-  Follows i s o = ((o ≡ none) × (suc i ≡ size 0)) ⊎ ((o ≡ some (row_of d size (next d s))) × (suc i < size 0))
+  Follows i s o = ((o ≡ None) × (suc i ≡ size 0)) ⊎ ((o ≡ Some (row_of d size (next d s))) × (suc i < size 0))
 
   module _ (i f v : ℕ) where
-    called : (g : ℕ) (c : Callers) (r p : Row) → Valid d (spot f v c) → number d size (spot f v c) ≡ i → called_by d f v ≡ some g → Follows i (spot f v c) (after d (some g) r p i)
+    called : (g : ℕ) (c : Callers) (r p : Row) → Valid d (spot f v c) → number d size (spot f v c) ≡ i → called_by d f v ≡ Some g → Follows i (spot f v c) (after d (Some g) r p i)
     unfolding row_of number base pos
     called g c r p valid is e =
         let known = D.known f v g (fits_known d size D f c valid.1) valid.0 e in
         let low = below d size D (spot g 0 (from f v c)) (D.some_vertex g known, (e, valid.0, valid.1)) in
         inr (rw (next_call d f v g c e, ← is), omega arith)
 
-    onward : (c : Callers) (p : Row) → Valid d (spot f v c) → number d size (spot f v c) ≡ i → called_by d f v ≡ none → v + 1 < drawn_count d f
+    onward : (c : Callers) (p : Row) → Valid d (spot f v c) → number d size (spot f v c) ≡ i → called_by d f v ≡ None → v + 1 < drawn_count d f
         → Follows i (spot f v c) (behind d (row f v (base d size c)) p)
     unfolding row_of number base pos
     onward c p valid is e h =
         let low = below d size D (spot f (suc v) c) (omega arith, valid.1) in
         inr (rw (lt-ltb (v + 1) (drawn_count d f) h, next_on d f v c e (omega arith), add-one), omega (arith, pos_none d size f v e))
 
-    ended : (c : Callers) (p : Row) → Valid d (spot f v c) → number d size (spot f v c) ≡ i → called_by d f v ≡ none → drawn_count d f ≤ v + 1
+    ended : (c : Callers) (p : Row) → Valid d (spot f v c) → number d size (spot f v c) ≡ i → called_by d f v ≡ None → drawn_count d f ≤ v + 1
         → p ≡ row_of d size (at d (base d size c - 1)) → Follows i (spot f v c) (behind d (row f v (base d size c)) p)
     unfolding row_of number base pos
     ended nobody p valid is e h caller =
@@ -67,8 +67,8 @@ module _ (d : List ℕ) (size : ℕ → ℕ) (D : Drawn d size) where
     follows c p valid is caller = by_callee (called_by d f v) refl
       where
         by_callee : (o : Option ℕ) → called_by d f v ≡ o → Follows i (spot f v c) (after d o (row f v (base d size c)) p i)
-        by_callee (some g) e = called g c (row f v (base d size c)) p valid is e
-        by_callee none e = by_order (v + 1) (drawn_count d f) (λ h. onward c p valid is e h) (λ h. ended c p valid is e h caller)
+        by_callee (Some g) e = called g c (row f v (base d size c)) p valid is e
+        by_callee None e = by_order (v + 1) (drawn_count d f) (λ h. onward c p valid is e h) (λ h. ended c p valid is e h caller)
 
   -- Rows that are the states in turn.
   pub record RowsAre (n : ℕ) (rows : List Row) : Type 0 where
@@ -95,10 +95,10 @@ module _ (d : List ℕ) (size : ℕ → ℕ) (D : Drawn d size) where
   one_row = record { count = omega (arith, some_row); are = λ j h. (let e : j ≡ 0 = omega arith in rw e) }
 
   more_row : (n : ℕ) (rows : List Row) → RowsAre n rows → (o : Option Row) → Follows (length rows - 1) (at d (length rows - 1)) o → RowsAre (suc n) (extended rows o)
-  more_row n rows A none (inl (e, last)) = record { count = omega (arith, A.count, some_row); are = A.are }
-  more_row n rows A none (inr (e, low)) = let z : ◌≡◌ {A = ℕ} 0 1 = cc in let w : ⊥ = omega arith in elim w [ ]
-  more_row n rows A (some r) (inl (e, last)) = let z : ◌≡◌ {A = ℕ} 0 1 = cc in let w : ⊥ = omega arith in elim w [ ]
-  more_row n rows A (some r) (inr (e, low)) =
+  more_row n rows A None (inl (e, last)) = record { count = omega (arith, A.count, some_row); are = A.are }
+  more_row n rows A None (inr (e, low)) = let z : ◌≡◌ {A = ℕ} 0 1 = cc in let w : ⊥ = omega arith in elim w [ ]
+  more_row n rows A (Some r) (inl (e, last)) = let z : ◌≡◌ {A = ℕ} 0 1 = cc in let w : ⊥ = omega arith in elim w [ ]
+  more_row n rows A (Some r) (inr (e, low)) =
       record {
         count = omega (arith, length-append rows (r ∷ []), A.count);
         are = λ j h. by_order j (length rows) (λ k. get_or-append rows (r ∷ []) (row 0 0 0) j k ∙ A.are j k) (λ k. new j h k);

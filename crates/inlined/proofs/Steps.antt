@@ -1,5 +1,5 @@
 -- What the parts of the one problem say of call stacks: its edges are steps, its loops the graphs' loops in their copies, its vertices show what the states show.
-use Prim.Native.Nat.{ℕ, suc, ◌-◌, ◌<◌}
+use Prim.Native.Nat.{ℕ, suc, ◌<◌}
 use mathlib.Core.Path.{◌≡◌, refl, sym, ap, subst, ◌∙◌}
 use mathlib.Core.List.{List, [], Memᴰ}
 use native.Mathlib.Omega.{arith}

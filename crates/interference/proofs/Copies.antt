@@ -1,14 +1,16 @@
--- The table copied out row by row, and in a row word by word.
-use Prim.Native.Nat.{ℕ, ◌+◌, ◌*◌, ◌≤◌, ◌<◌}
-use mathlib.Core.Path.{◌≡◌, refl, ◌∙◌}
-use mathlib.Core.List.{List}
+-- The table copied out row by row, and a row at once.
+use Prim.Native.Nat.{ℕ, ◌+◌, ◌-◌, ◌*◌, ◌≤◌, ◌<◌}
+use mathlib.Core.Path.{◌≡◌, refl, ap, ◌∙◌}
+use mathlib.Core.List.{List, ◌++◌}
 use native.Mathlib.Nat.{mul-le-mul_right, suc-mul}
 use native.Mathlib.Numerals.{add-one}
 use native.Mathlib.Omega.{arith}
-use lib.ListN.{length, get_or, set, length-set}
-use lib.Seq.{get_or-set_same, get_or-set_other}
+use lib.ListN.{length, get_or, take, drop, length-append, length-drop, get_or-append}
+use lib.Seq.{get_or-take, length-take-le}
+use borrow.Rule.Slice.PartMut.{put_mid}
+use Rattle.std.proofs.lemmas.List.{get_or-drop, get_or-append_right}
 use Rattle.model.proofs.Cases.{by_order}
-use Rattle.sets.specs.Sets.{set_words, set_at}
+use Rattle.sets.specs.Sets.{set_words}
 use Rattle.interference.specs.Copies.{RowCopied, Copied}
 use Rattle.model.specs.Places as places
 
@@ -27,21 +29,39 @@ few_words v count few small =
     omega arith
 
 module _ (table : List ℕ) (words : List ℕ) where
-  pub no_word : (v at : ℕ) → RowCopied table v 0 at words words
-  no_word v at = record { long = refl; copied = λ f h. absurd (omega arith); before = λ k _. refl; later = λ k _. refl }
+  -- A row copied at once, from `start` on in the table.
+  module _ (v count at start : ℕ) (here : start ≡ places.most_functions * v) (inside : start + count ≤ length table) (room : at + count ≤ length words) where
+    abbrev row_there : List ℕ
+    row_there = take (start + count - start) (drop start table)
 
-  pub one_word : (v at f : ℕ) (after : List ℕ) → at + f < length after → RowCopied table v f at words after →
-      RowCopied table v (f + 1) at words (set after (at + f) (get_or table (set_at v f) 0))
-  one_word v at f after inside r = record {
-    long = length-set after (at + f) (get_or table (set_at v f) 0) ∙ r.long;
-    copied = λ k h. by_order k f
-        (λ lt. get_or-set_other after (at + f) (at + k) (get_or table (set_at v f) 0) 0 (omega arith) ∙ r.copied k lt)
-        (λ le.
-        let e : k ≡ f = omega arith in
-        rw e (get_or-set_same after (at + f) (get_or table (set_at v f) 0) 0 inside));
-    before = λ k h. get_or-set_other after (at + f) k (get_or table (set_at v f) 0) 0 (omega arith) ∙ r.before k h;
-    later = λ k h. get_or-set_other after (at + f) k (get_or table (set_at v f) 0) 0 (omega arith) ∙ r.later k (omega arith);
-  }
+    abbrev behind : List ℕ
+    behind = drop (at + count - at) (drop at words)
+
+    row_long : length row_there ≡ count
+    row_long = length-take-le (start + count - start) (drop start table) (omega (arith, length-drop start table)) ∙ omega arith
+
+    front_long : length (take at words) ≡ at
+    front_long = length-take-le at words (omega arith)
+
+    pub row_copied : {row : List ℕ} → row ≡ row_there → RowCopied table v count at words (put_mid at (at + count - at) words row)
+    row_copied is = rw is (record {
+      long = length-append (take at words) (row_there ++ behind) ∙ omega (arith, length-append row_there behind, row_long, front_long, length-drop (at + count - at) (drop at words), length-drop at words);
+      copied = λ f h.
+          let e : at + f - at ≡ f = omega arith in
+          get_or-append_right (take at words) (row_there ++ behind) at (at + f) 0 front_long (omega arith)
+          ∙ ap (λ (i : ℕ). get_or (row_there ++ behind) i 0) e
+          ∙ get_or-append row_there behind 0 f (omega (arith, row_long))
+          ∙ get_or-take (start + count - start) (drop start table) f 0 (omega arith)
+          ∙ get_or-drop start table f 0
+          ∙ ap (λ (i : ℕ). get_or table (i + f) 0) here;
+      before = λ k h. get_or-append (take at words) (row_there ++ behind) 0 k (omega (arith, front_long)) ∙ get_or-take at words k 0 h;
+      later = λ k h.
+          get_or-append_right (take at words) (row_there ++ behind) at k 0 front_long (omega arith)
+          ∙ get_or-append_right row_there behind count (k - at) 0 row_long (omega arith)
+          ∙ get_or-drop (at + count - at) (drop at words) (k - at - count) 0
+          ∙ get_or-drop at words (at + count - at + (k - at - count)) 0
+          ∙ (let e : at + (at + count - at + (k - at - count)) ≡ k = omega arith in ap (λ (i : ℕ). get_or words i 0) e);
+    })
 
   module _ (count : ℕ) where
     pub no_row : Copied table 0 count words words

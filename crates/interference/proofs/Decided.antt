@@ -1,15 +1,14 @@
 -- Interference's contract decides its answer and the lent words: no two meet it for one problem and the same words at first.
 use Prim.Native.Nat.{ℕ, zero, suc, ◌+◌, ◌*◌, ◌/◌, ◌%◌, ◌^◌, ◌<◌}
+use Rattle.std.specs.Prelude.{Err, Ok, Result}
+use Rattle.model.specs.declared.Refusal.{Refusal}
 use mathlib.Core.Path.{◌≡◌, sym, ap, ◌∙◌}
 use mathlib.Core.List.{List}
 use native.Mathlib.Nat.{div-lt_iff_lt-mul, div-add-mod', mod-lt}
 use native.Mathlib.Omega.{arith}
 use lib.ListN.{get_or}
 use lib.Seq.{ext_get_or}
-use Rattle.model.specs.declared.Verdict.TheVariants as verdict
 use Rattle.model.specs.declared.Problem.{Problem}
-use Rattle.model.specs.declared.InterferenceAnswer.{InterferenceAnswer}
-use Rattle.model.specs.declared.InterferenceAnswer.TheVariants.{Filled, Refused}
 use Rattle.model.specs.Results.{Sets, InterferenceSays}
 use Rattle.model.proofs.Answers.{refused_not_accepted}
 use Rattle.model.proofs.Cases.{by_order}
@@ -38,11 +37,11 @@ module _ (p : Problem) (words after after' : List ℕ) (small : (k : ℕ) → ge
         ext_get_or 0 after after' (a.long ∙ sym b.long)
         (λ k lt. by_order k n (same_set k) (λ past. a.later k past ∙ sym (b.later k (omega (arith, a.filled, b.filled)))))
 
-  pub interference_decided : (r s : InterferenceAnswer) → InterferenceSays p words after r → InterferenceSays p words after' s → (r ≡ s) × (after ≡ after')
-  interference_decided (Filled n) (Filled m) a b = (ap Filled (a.1.filled ∙ sym b.1.filled), same_words n m a.1 b.1)
-  interference_decided (Filled n) (Refused g) a b = refused_not_accepted (sym b.0 ∙ a.0)
-  interference_decided (Refused f) (Filled m) a b = refused_not_accepted (sym a.0 ∙ b.0)
-  interference_decided (Refused f) (Refused g) a b =
-      let same : verdict.Refused f ≡ verdict.Refused g = sym a.0 ∙ b.0 in
+  pub interference_decided : (r s : Result ℕ Refusal) → InterferenceSays p words after r → InterferenceSays p words after' s → (r ≡ s) × (after ≡ after')
+  interference_decided (Ok n) (Ok m) a b = (ap Ok (a.1.filled ∙ sym b.1.filled), same_words n m a.1 b.1)
+  interference_decided (Ok n) (Err g) a b = refused_not_accepted (sym b.0 ∙ a.0)
+  interference_decided (Err f) (Ok m) a b = refused_not_accepted (sym a.0 ∙ b.0)
+  interference_decided (Err f) (Err g) a b =
+      let same : Err f ≡ Err g = sym a.0 ∙ b.0 in
       let is : f ≡ g = cc in
-      (ap Refused is, a.1 ∙ sym b.1)
+      (ap Err is, a.1 ∙ sym b.1)

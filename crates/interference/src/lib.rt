@@ -9,7 +9,7 @@ ghost use Rattle.model.specs.Outcomes.{interference_outcome, FillsWords};
 ghost use Rattle.interference.specs.Copies.{RowCopied, Copied};
 ghost use Rattle.model.specs.Places as places;
 
-use model::{InterferenceAnswer, Numbers, Problem, Refusal, Verdict, places};
+use model::{Numbers, Problem, Refusal, places};
 use sets::SET_WORDS;
 
 // The sets of v to their places in the buffer, count words from `at` on.
@@ -18,11 +18,8 @@ fn copy_row(table: &[u32; SET_WORDS], v: usize, count: usize, words: &mut [u32],
     requires fact_2 { at + count ≤ length words.old }
     ensures { RowCopied table.now v count at words.old words.new }
 {
-    let mut k: usize = 0;
-    while k < count {
-        words[at + k] = table[places::MOST_FUNCTIONS * v + k];
-        k += 1;
-    }
+    let row = places::MOST_FUNCTIONS * v;
+    words[at..at + count].copy_from_slice(&table[row..row + count]);
 }
 
 fn copy_out(table: &[u32; SET_WORDS], vertices: usize, count: usize, words: &mut [u32])
@@ -30,15 +27,13 @@ fn copy_out(table: &[u32; SET_WORDS], vertices: usize, count: usize, words: &mut
     requires fact_2 { vertices * count ≤ length words.old }
     ensures { Copied table.now vertices count words.old words.new }
 {
-    let mut v: usize = 0;
-    while v < vertices {
+    for v in 0..vertices {
         copy_row(table, v, count, words, v * count);
-        v += 1;
     }
 }
 
 // Interference on checked numbers: the room for the words, and the sets.
-pub fn interference_checked(l: &Numbers, words: &mut [u32]) -> InterferenceAnswer
+pub fn interference_checked(l: &Numbers, words: &mut [u32]) -> Result<usize, Refusal>
     requires { Checked l.now }
     ensures { InterferenceSays (problem_of l.now) words.old words.new result }
 {
@@ -46,24 +41,21 @@ pub fn interference_checked(l: &Numbers, words: &mut [u32]) -> InterferenceAnswe
     let count = lookup::function_count(l);
     let need = vertices * count;
     if words.len() < need {
-        return InterferenceAnswer::Refused(Refusal::BufferTooShort(need as u64));
+        return Err(Refusal::BufferTooShort(need as u64));
     }
     let mut table = [0u32; SET_WORDS];
     sets::sets(l, &mut table);
     copy_out(&table, vertices, count, words);
-    InterferenceAnswer::Filled(need)
+    Ok(need)
 }
 
 // **Interference.** Word v x functions + f of the buffer becomes the interference set of v and f, or the first refusal that applies leaves the
 // buffer as it is.
-pub fn interference(problem: Problem, words: &mut [u32]) -> InterferenceAnswer
+pub fn interference(problem: Problem, words: &mut [u32]) -> Result<usize, Refusal>
     ensures interference_says { InterferenceSays problem words.old words.new result }
     ensures fills_words { FillsWords problem words.old words.new (interference_outcome result) }
 {
     let numbers = numbers::numbers_of(problem);
-    let verdict = checks::judge(&numbers);
-    let Verdict::Accepted = verdict else {
-        return InterferenceAnswer::Refused(model::refusal_in(verdict));
-    };
+    checks::judge(&numbers)?;
     interference_checked(&numbers, words)
 }

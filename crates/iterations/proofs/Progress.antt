@@ -1,10 +1,10 @@
 -- How a part of the vertices is filled, a vertex or a loop at a time.
 use Prim.Native.Nat.{ℕ, ◌+◌, ◌-◌, ◌*◌, ◌≤◌, ◌<◌, min}
-use mathlib.Core.Path.{◌≡◌, refl, ap}
+use mathlib.Core.Path.{◌≡◌, refl, sym, ap}
 use mathlib.Core.List.{List, Memᴰ}
 use mathlib.Core.Logic.{◌⊎◌, inl, inr}
 use native.Mathlib.Omega.{arith}
-use lib.ListN.{get_or, set}
+use lib.ListN.{length, get_or, set}
 use Rattle.model.specs.declared.Loop.{Loop}
 use Rattle.model.specs.Graph.{loop}
 use Rattle.model.specs.Operations.{Checked}
@@ -13,12 +13,12 @@ use Rattle.model.proofs.Cases.{by_order}
 use Rattle.lookup.specs.Lists.{vertices_in, loops_in}
 use Rattle.greatest.specs.Numbers.{NoHeader}
 use Rattle.greatest.proofs.Rules.{one_loop}
-use Rattle.chains.specs.Chains.{headers}
+use Rattle.chains.specs.Chains.{headers, BeginsAt}
 use Rattle.stays.specs.Tables.{cap, by_header}
 use Rattle.offers.specs.Offers.{visit_number, entry_number, turn_number}
 use Rattle.iterations.specs.Filling.{Filling, Before, Since, After, ToLoop, PastLoop, Part, Partly}
 use Rattle.lookup.proofs.Places.{few_vertices}
-use Rattle.chains.proofs.Checks.{facts, rules_of, wide, LoopRange, member, range_wide}
+use Rattle.chains.proofs.Checks.{facts, rules_of, wide, LoopRange, loop_range, member, range_wide}
 use Rattle.iterations.proofs.Growth.{fewer}
 use Rattle.iterations.proofs.Stores.{store_visit, store_entry, store_turn}
 use Rattle.iterations.proofs.Parts.{by_place}
@@ -76,6 +76,10 @@ pub record AtVertex (l charge enter d e w : List ℕ) (first to v : ℕ) : Type 
   pub so_far : Partly l charge enter d e w first to v
   pub more : v < to
 
+pub at_vertex : {l charge enter d e w : List ℕ} {first to v : ℕ} → Part l first to → Partly l charge enter d e w first to v → v < to
+    → AtVertex l charge enter d e w first to v
+at_vertex part so_far more = record { part = part; so_far = so_far; more = more }
+
 module _ {l charge enter d e w : List ℕ} {first to v : ℕ} (at : AtVertex l charge enter d e w first to v) where
   pub filling_here : Filling l charge enter d e w v (Since first v)
   filling_here = at.so_far.filling
@@ -88,6 +92,13 @@ module _ {l charge enter d e w : List ℕ} {first to v : ℕ} (at : AtVertex l c
 
   pub vertex_small : v < places.most_vertices
   vertex_small = omega (arith, below_vertices, few_vertices l (facts ok))
+
+  -- The loop that begins at v.
+  pub loop_begun : {i count last : ℕ} → count ≡ length (loops_in l) → i < count → BeginsAt (loops_in l) v i → last ≡ (loop (loops_in l) i).last
+      → LoopRange l i v last
+  loop_begun {i} is below begins at_last =
+      let listed : i < length (loops_in l) = rw is at below in
+      loop_range ok listed (sym (begins.found listed)) at_last
 
   -- All loops before v are done.
   here : Filling l charge enter d e w v (Before v)

@@ -51,6 +51,7 @@ fn range(
 
 // The numbers of loop i: of entering it, of the vertices in its range and the loops inside it, and of its iteration, which rests on those.
 #[cycle(iteration_range)]
+#[tactic(auto, using(chains::proofs::Checks::checked_bounds))]
 fn iteration(
     l: &Numbers,
     edges: &EdgeTable,
@@ -89,6 +90,7 @@ fn iteration(
 }
 
 // The greatest weight over all lawful walks, exact up to the bound's limit.
+#[tactic(auto, using(chains::proofs::Checks::checked_bounds))]
 pub fn greatest_weight(
     l: &Numbers,
     edges: &EdgeTable,

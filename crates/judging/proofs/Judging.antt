@@ -1,12 +1,12 @@
 -- The loop that judges: what is left to judge from the present field is what was to be judged from the first, and no more than five bytes a number are counted.
 use Prim.Native.Nat.{ℕ, suc, ◌+◌, ◌*◌, ◌-◌, ◌≤◌, ◌<◌}
+use Rattle.std.specs.Prelude.{Err, Ok}
 use mathlib.Core.Path.{◌≡◌, refl, sym, ap, ◌∙◌}
 use mathlib.Core.List.{List}
 use mathlib.Core.Bool.{true, false}
 use native.Mathlib.Omega.{arith}
 use lib.ListN.{get_or}
 use Rattle.model.specs.declared.Field.{Field}
-use Rattle.model.specs.declared.FieldsAnswer.TheVariants.{Done, Refused}
 use Rattle.model.specs.declared.Refusal.TheVariants as refusal
 use Rattle.model.specs.File.{number_count, first_field, next_field, edition_in, field_size, in_range, ascends, item_start, check_from, check_fields}
 use Rattle.editions.proofs.Fields.{field_five}
@@ -30,7 +30,7 @@ module _ {numbers : List ℕ} {field : Field} {at start : ℕ} (r : Judging numb
   abbrev here : ℕ
   here = get_or numbers field.place 0
 
-  pub judge_all : rows.end ≤ field.row → Done at ≡ check_fields numbers
+  pub judge_all : rows.end ≤ field.row → Ok at ≡ check_fields numbers
   judge_all h = sym (check_done numbers at start field _ h) ∙ r.same
 
   module _ (h : field.row < rows.end) where
@@ -56,12 +56,12 @@ module _ {numbers : List ℕ} {field : Field} {at start : ℕ} (r : Judging numb
     turn : check_from (suc (number_count - (r.count + 1))) at start field numbers ≡ check_fields numbers
     turn = ap (λ (n : ℕ). check_from n at start field numbers) (sym (to_come r.reached h)) ∙ r.same
 
-    pub judge_too_far : in_range numbers field here ≡ false → Refused (refusal.OutOfRange at) ≡ check_fields numbers
+    pub judge_too_far : in_range numbers field here ≡ false → Err (refusal.OutOfRange at) ≡ check_fields numbers
     judge_too_far f = sym (check_out numbers at start field _ h f) ∙ turn
 
     module _ (f : in_range numbers field here ≡ true) where
       module _ {start' : ℕ} (starts : start' ≡ item_start field at start) where
-        pub judge_unordered : ascends numbers field ≡ false → Refused (refusal.NotAscending start') ≡ check_fields numbers
+        pub judge_unordered : ascends numbers field ≡ false → Err (refusal.NotAscending start') ≡ check_fields numbers
         judge_unordered g = rw starts (sym (check_disorder numbers at start field _ h f g) ∙ turn)
 
         pub judge_next : ascends numbers field ≡ true → {d : Field} → d ≡ next_field field here → {size : ℕ} → size ≡ field_size (edition_in numbers) field here → Judging numbers d (at + size) start'

@@ -4,10 +4,10 @@
 ghost use Rattle.std.specs.Prelude.{◌≡◌};
 ghost use Rattle.model.specs.File.{check_fields};
 
-use model::{FieldsAnswer, Numbers, Refusal, places, rows};
+use model::{Numbers, Refusal, places, rows};
 
 // A refusal is placed by the bytes that the numbers would be written as.
-pub fn check_fields(numbers: &Numbers) -> FieldsAnswer
+pub fn check_fields(numbers: &Numbers) -> Result<usize, Refusal>
     ensures { result ≡ check_fields numbers.now }
 {
     let table = fields::table();
@@ -21,14 +21,14 @@ pub fn check_fields(numbers: &Numbers) -> FieldsAnswer
         let place = field.place;
         let value = numbers[place];
         if !field_rules::in_range(&table, numbers, field, value) {
-            return FieldsAnswer::Refused(Refusal::OutOfRange(at as u64));
+            return Err(Refusal::OutOfRange(at as u64));
         }
         start = fields::item_start(&table, field, at, start);
         if !field_rules::ascends(&table, numbers, field) {
-            return FieldsAnswer::Refused(Refusal::NotAscending(start as u64));
+            return Err(Refusal::NotAscending(start as u64));
         }
         at += editions::field_size(numbers[places::EDITION], field, value);
         field = fields::next_field(&table, field, value);
     }
-    FieldsAnswer::Done(at)
+    Ok(at)
 }

@@ -1,15 +1,14 @@
 -- What judging a layout answers: the bytes needed where no refusal applies.
-use Rattle.std.specs.Prelude.{ℕ}
-use Rattle.model.specs.declared.Verdict.{Verdict}
-use Rattle.model.specs.declared.Verdict.TheVariants as verdict
+use Rattle.std.specs.Prelude.{ℕ, Err, Ok, Result}
+use Rattle.model.specs.Refusals.{Verdict}
+use Rattle.model.specs.declared.Refusal.{Refusal}
+use Rattle.model.specs.declared.Bytes.{Bytes}
 use Rattle.model.specs.Zero.{bytes}
-use Rattle.layout.specs.declared.LayoutAnswer.{LayoutAnswer}
-use Rattle.layout.specs.declared.LayoutAnswer.TheVariants.{Fits, Refused}
 
-abbrev pub layout_answer : Verdict → ℕ → LayoutAnswer
-layout_answer verdict.Accepted need = Fits (bytes need)
-layout_answer (verdict.Refused f) need = Refused f
+abbrev pub layout_answer : Verdict → ℕ → Result Bytes Refusal
+layout_answer (Ok _) need = Ok (bytes need)
+layout_answer (Err f) need = Err f
 
-abbrev pub layout_verdict : LayoutAnswer → Verdict
-layout_verdict (Fits need) = verdict.Accepted
-layout_verdict (Refused f) = verdict.Refused f
+abbrev pub layout_verdict : Result Bytes Refusal → Verdict
+layout_verdict (Ok need) = Ok tt
+layout_verdict (Err f) = Err f

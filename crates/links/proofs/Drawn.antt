@@ -1,5 +1,5 @@
 -- The lists of a drawn graph, item by item, and how far a row of an inlined drawing reaches.
-use Prim.Native.Nat.{ℕ, ◌<◌}
+use Prim.Native.Nat.{ℕ, ◌≤◌, ◌<◌}
 use mathlib.Core.Path.{◌≡◌}
 use mathlib.Core.List.{List}
 use native.Mathlib.Omega.{arith}
@@ -34,6 +34,12 @@ module _ (d : List ℕ) (f : ℕ) (facts : DrawnFacts d f) where
 module _ (d : List ℕ) (facts : DrawingFacts d) (i : ℕ) (r : Row) (fits : RowFits d i r) where
   pub row_drawn : DrawnFacts d r.function
   row_drawn = facts.drawn r.function fits.function
+
+  pub row_edges : drawn_edges d r.function ≤ places.most_edges
+  row_edges = row_drawn.edges
+
+  pub row_loops : drawn_loops d r.function ≤ places.most_loops
+  row_loops = row_drawn.loops
 
   pub row_function : r.function < places.most_functions
   row_function = omega (arith, fits.function, facts.functions)

@@ -3,7 +3,7 @@ use Prim.Native.Nat.{ℕ, ◌+◌, ◌-◌, ◌≤◌, ◌<◌}
 use mathlib.Core.Path.{◌≡◌, ap, ◌∙◌}
 use mathlib.Core.List.{List, [], ◌∷◌}
 use borrow.Author.Tests.{eq-eqb, ne_eqb, lt-ltb, le-ltb}
-use mathlib.Core.Option.{some, none}
+use Rattle.std.specs.Prelude.{Some, None}
 use Rattle.model.specs.declared.Edge.{Edge}
 use Rattle.model.specs.declared.Row.{Row}
 use Rattle.model.specs.Places as places
@@ -15,11 +15,11 @@ module _ (d : List ℕ) (r : Row) where
   abbrev called : ℕ
   called = drawn_item d r.function places.function places.vertex_width r.vertex
 
-  calls_one : (called ≡ 255 → ⊥) → called_by d r.function r.vertex ≡ some called
+  calls_one : (called ≡ 255 → ⊥) → called_by d r.function r.vertex ≡ Some called
   unfolding called_by
   calls_one h = rw (ne_eqb called 255 h)
 
-  calls_none : called ≡ 255 → called_by d r.function r.vertex ≡ none
+  calls_none : called ≡ 255 → called_by d r.function r.vertex ≡ None
   unfolding called_by
   calls_none h = rw (eq-eqb called 255 h)
 

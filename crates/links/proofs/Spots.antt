@@ -5,14 +5,14 @@ use mathlib.Core.List.{List}
 use mathlib.Core.Bool.{Bool, true, false, cond, ◌&&◌}
 use native.Mathlib.Omega.{arith}
 use native.Mathlib.Nat.{sub-zero}
-use lib.ListN.{length, get_or, set, take, replicate, length-set, length-replicate, get_or-replicate}
-use lib.Seq.{get_or-set_same, get_or-set_other, get_or-take, length-take-le}
+use lib.ListN.{length, get_or, set, replicate, length-set, length-replicate, get_or-replicate}
+use lib.Seq.{get_or-set_same, get_or-set_other}
 use lib.Dec.{eqb}
 use borrow.Author.Tests.{eq-eqb, ne_eqb}
 use Rattle.model.specs.declared.Row.{Row}
 use Rattle.model.specs.Places as places
 use Rattle.model.specs.Search.{lowest_from}
-use Rattle.model.specs.Inlining.{row, row_at, number_in}
+use Rattle.model.specs.Inlining.{row_at, number_in}
 use Rattle.model.proofs.Cases.{by_same, left_of_lem}
 use Rattle.links.specs.Placed.{spot, spot_count, Placed, Inside}
 
@@ -84,29 +84,9 @@ module _ (rows : List Row) where
   unfolding number_in
   all_placed i table end p b w low high = let e : i ≡ 0 = omega arith in rw (e, sub-zero) at (p.each b w low high)
 
--- The same of the first rows of an array.
-module _ (rows : List Row) (count : ℕ) (enough : count ≤ length rows) where
-  abbrev front : List Row
-  front = take count rows
-
-  pub front_length : length front ≡ count
-  front_length = length-take-le count rows enough
-
-  pub front_row : (i : ℕ) → i < count → row_at front i ≡ row_at rows i
-  front_row i h = get_or-take count rows i (row 0 0 0) h
-
-  pub front_none : PlacedFrom front count (replicate spot_count count)
-  front_none = rw front_length at (none_placed front)
-
-  -- Row i fits the table.
-  pub front_inside : Inside front → (i : ℕ) → i < count → ((row_at rows i).first < places.most_vertices) × ((row_at rows i).vertex < places.most_vertices)
-  front_inside inside i h =
-      let below : i < length front = omega (arith, front_length) in
-      (rw (front_row i h) at (inside.first i below), rw (front_row i h) at (inside.vertex i below))
-
-  pub front_more : Inside front → (i : ℕ) (table : List ℕ) → 0 < i → i ≤ count → PlacedFrom front i table →
-      PlacedFrom front (i - 1) (set table (spot (row_at rows (i - 1)).first (row_at rows (i - 1)).vertex) (i - 1))
-  front_more inside i table low high placed =
+  -- Row i - 1 too.
+  pub next_placed : Inside rows → (i : ℕ) (table : List ℕ) → 0 < i → PlacedFrom i table →
+      PlacedFrom (i - 1) (set table (spot (row_at rows (i - 1)).first (row_at rows (i - 1)).vertex) (i - 1))
+  next_placed inside i table low placed =
       let same : i ≡ i - 1 + 1 = omega arith in
-      subst (λ (r : Row). PlacedFrom front (i - 1) (set table (spot r.first r.vertex) (i - 1))) (front_row (i - 1) (omega arith))
-      (one_placed front (i - 1) table (omega (arith, front_length)) inside (subst (λ (k : ℕ). PlacedFrom front k table) same placed))
+      one_placed (i - 1) table (omega (arith, placed.within)) inside (subst (λ (k : ℕ). PlacedFrom k table) same placed)

@@ -1,5 +1,5 @@
 -- The table of places: which row is a vertex of the copy that begins at a row.
-use Rattle.std.specs.Prelude.{ℕ, ◌+◌, ◌*◌, ◌≤◌, ◌<◌, ◌≡◌, List, length, get_or, take}
+use Rattle.std.specs.Prelude.{ℕ, ◌+◌, ◌*◌, ◌≤◌, ◌<◌, ◌≡◌, List, length, get_or}
 use Rattle.model.specs.declared.Row.{Row}
 use Rattle.model.specs.Places as places
 use Rattle.model.specs.Inlining.{row_at, number_in}
@@ -22,9 +22,9 @@ pub record Inside (rows : List Row) : Type 0 where
   pub first : (i : ℕ) → i < length rows → (row_at rows i).first < places.most_vertices
   pub vertex : (i : ℕ) → i < length rows → (row_at rows i).vertex < places.most_vertices
 
--- The rows of a drawing at the front of an array, and their table.
-pub record Rowed (d : List ℕ) (rows : List Row) (count : ℕ) (table : List ℕ) : Type 0 where
+-- The rows of a drawing, no more than a problem may have vertices, and their table.
+pub record Rowed (d : List ℕ) (rows : List Row) (table : List ℕ) : Type 0 where
   pub facts : DrawingFacts d
-  pub fit : RowsFit d (take count rows)
-  pub few : count ≤ places.most_vertices
-  pub placed : Placed (take count rows) table
+  pub fit : RowsFit d rows
+  pub few : length rows ≤ places.most_vertices
+  pub placed : Placed rows table

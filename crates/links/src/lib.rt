@@ -1,7 +1,7 @@
 // The edges and the loops of an inlined drawing, stored among a problem's numbers.
 #![tactic(auto)]
 
-ghost use Rattle.std.specs.Prelude.{◌≡◌, ◌<◌, ◌≤◌, ◌-◌, ◌+◌, get_or, take, replicate, eqb};
+ghost use Rattle.std.specs.Prelude.{◌≡◌, ◌<◌, ◌≤◌, ◌-◌, ◌+◌, get_or, length, replicate, eqb};
 ghost use mathlib.Core.List.{List, ◌∷◌, [], flat_map};
 ghost use Rattle.model.specs.Search.{lowest_below};
 ghost use Rattle.model.specs.declared.Row.{Row};
@@ -22,35 +22,24 @@ pub const SPOT_COUNT: usize = places::MOST_VERTICES * places::MOST_VERTICES;
 
 pub type Spots = [u8; SPOT_COUNT];
 
-// The rows, of which a count tells how many there are. One more than a problem may have vertices tells that there are too many.
-pub type Rows = [Row; rows::ROOM];
-
 // Fills the table, in which no vertex has a row yet. The lowest row wins its spot, as the last that is stored.
-pub fn fill_places(rows: Rows, count: usize, table: &mut Spots)
-    requires fact_1 { Inside (take count rows) }
-    requires fact_2 { count ≤ spots.most_vertices }
-    requires fact_3 { table.old ≡ replicate spot_count count }
-    ensures { Placed (take count rows) table.new }
+pub fn fill_places(rows: &[Row], table: &mut Spots)
+    requires fact_1 { Inside rows.now }
+    requires fact_2 { length rows.now ≤ spots.most_vertices }
+    requires fact_3 { table.old ≡ replicate spot_count (length rows.now) }
+    ensures { Placed rows.now table.new }
 {
-    let mut i = count;
-    while i > 0 {
-        i -= 1;
+    for i in (0..rows.len()).rev() {
         let r = rows[i];
         table[places::MOST_VERTICES * r.first + r.vertex] = i as u8;
     }
-}
-
-fn widen(x: u8) -> usize
-    ensures { result ≡ x }
-{
-    x as usize
 }
 
 fn place_of(table: &Spots, first: usize, vertex: usize) -> usize
     requires { (first < spots.most_vertices) × (vertex < spots.most_vertices) }
     ensures { result ≡ get_or table.now (spot first vertex) 0 }
 {
-    widen(table[places::MOST_VERTICES * first + vertex])
+    usize::from(table[places::MOST_VERTICES * first + vertex])
 }
 
 // One edge behind the k that are put; past the room, the count tells.
@@ -60,9 +49,10 @@ fn put_edge(numbers: &mut Numbers, k: usize, from: usize, to: usize) -> usize
     if k < places::MOST_EDGES {
         numbers[places::FROM + places::EDGE_WIDTH * k] = from as u64;
         numbers[places::TO + places::EDGE_WIDTH * k] = to as u64;
-        return k + 1;
+        k + 1
+    } else {
+        places::MOST_EDGES + 1
     }
-    places::MOST_EDGES + 1
 }
 
 // The edges ascend, so that the first from v on is found by halving.
@@ -85,6 +75,7 @@ fn first_edge(d: &Drawing, f: usize, v: usize) -> usize
 }
 
 // The edges of a row's graph, from its vertex, in its copy, as edges from i.
+#[tactic(auto, using(crate::proofs::Drawn::row_function, crate::proofs::Drawn::row_edges))]
 fn put_leaving(
     d: &Drawing,
     here: Row,
@@ -103,19 +94,18 @@ fn put_leaving(
     let first = here.first;
     let n = drawings::edge_count(d, f);
     let mut at = k;
-    let mut j = first_edge(d, f, v);
-    while j < n {
+    for j in first_edge(d, f, v)..n {
         if drawings::edge_from(d, f, j) != v {
             return at;
         }
         let to = place_of(table, first, drawings::edge_to(d, f, j));
         at = put_edge(numbers, at, i, to);
-        j += 1;
     }
     at
 }
 
 // The edges from row i: a call vertex leads to its copy's first vertex, and a copy's last vertex takes over the call's edges out.
+#[tactic(auto, using(crate::proofs::Drawn::row_function, crate::proofs::Drawn::row_vertex))]
 fn put_row(
     d: &Drawing,
     here: Row,
@@ -146,26 +136,17 @@ fn put_row(
 }
 
 // The edges of the result, by ascending row.
-pub fn put_edges(
-    d: &Drawing,
-    rows: Rows,
-    count: usize,
-    table: &Spots,
-    numbers: &mut Numbers,
-) -> usize
-    requires { Rowed d.now rows count table.now }
-    ensures { EdgesPut numbers.old (inlined_edges d.now (take count rows)) numbers.new result }
+pub fn put_edges(d: &Drawing, rows: &[Row], table: &Spots, numbers: &mut Numbers) -> usize
+    requires { Rowed d.now rows.now table.now }
+    ensures { EdgesPut numbers.old (inlined_edges d.now rows.now) numbers.new result }
 {
     let mut k: usize = 0;
-    let mut i: usize = 0;
-    while i < count {
+    for (i, here) in rows.iter().enumerate() {
         if k > places::MOST_EDGES {
             return k;
         }
-        let here = rows[i];
         let caller = rows[rows::one_before(here.first)];
-        k = put_row(d, here, caller, i, table, numbers, k);
-        i += 1;
+        k = put_row(d, *here, caller, i, table, numbers, k);
     }
     k
 }
@@ -177,9 +158,10 @@ fn put_loop(numbers: &mut Numbers, k: usize, header: usize, last: usize, bound: 
         numbers[places::HEADER + places::LOOP_WIDTH * k] = header as u64;
         numbers[places::LAST + places::LOOP_WIDTH * k] = last as u64;
         numbers[places::BOUND + places::LOOP_WIDTH * k] = bound as u64;
-        return k + 1;
+        k + 1
+    } else {
+        places::MOST_LOOPS + 1
     }
-    places::MOST_LOOPS + 1
 }
 
 // A range ends before the vertex that follows its last one in the copy: so it holds the copies that its vertices call.
@@ -198,17 +180,16 @@ fn headed(d: &Drawing, f: usize, v: usize) -> usize
     ensures { result ≡ lowest_below (drawn_loops d.now f) (λ j. eqb (drawn_loop d.now f j).header v) }
 {
     let n = drawings::loop_count(d, f);
-    let mut j: usize = 0;
-    while j < n {
+    for j in 0..n {
         if drawings::loop_header(d, f, j) == v {
             return j;
         }
-        j += 1;
     }
     n
 }
 
 // The loops of a row's graph whose header is its vertex, in its copy: one at most, since headers ascend.
+#[tactic(auto, using(crate::proofs::Drawn::row_function, crate::proofs::Drawn::row_loops))]
 fn put_headed(
     d: &Drawing,
     here: Row,
@@ -233,25 +214,16 @@ fn put_headed(
 }
 
 // The loops of the result, by ascending row.
-pub fn put_loops(
-    d: &Drawing,
-    rows: Rows,
-    count: usize,
-    table: &Spots,
-    numbers: &mut Numbers,
-) -> usize
-    requires { Rowed d.now rows count table.now }
-    ensures { LoopsPut numbers.old (inlined_loops d.now (take count rows)) numbers.new result }
+pub fn put_loops(d: &Drawing, rows: &[Row], table: &Spots, numbers: &mut Numbers) -> usize
+    requires { Rowed d.now rows.now table.now }
+    ensures { LoopsPut numbers.old (inlined_loops d.now rows.now) numbers.new result }
 {
     let mut k: usize = 0;
-    let mut i: usize = 0;
-    while i < count {
+    for (i, here) in rows.iter().enumerate() {
         if k > places::MOST_LOOPS {
             return k;
         }
-        let here = rows[i];
-        k = put_headed(d, here, i, table, numbers, k);
-        i += 1;
+        k = put_headed(d, *here, i, table, numbers, k);
     }
     k
 }

@@ -2,7 +2,7 @@
 ghost use Rattle.std.specs.Prelude.{◌*◌, ◌<◌, ◌≤◌, length};
 ghost use Rattle.model.specs.Places;
 
-use model::{InterferenceAnswer, Problem, Refusal, Vertex, places};
+use model::{Problem, Refusal, Vertex, places};
 use prints::text;
 use std::io;
 use std::io::Write;
@@ -81,12 +81,7 @@ fn filled(out: &mut impl Write, count: usize, words: &[u32]) -> io::Result<()> {
 
 // As `refusal 10 at 21, the words kept`.
 fn refused(out: &mut impl Write, refusal: Refusal, words: &[u32]) -> io::Result<()> {
-    prints::placed(
-        out,
-        b"refusal ",
-        model::number_of(refusal),
-        model::place_of(refusal),
-    )?;
+    prints::placed(out, b"refusal ", refusal.number(), refusal.place())?;
     text(out, b", the words")?;
     tell_kept(out, words, 0)
 }
@@ -106,8 +101,8 @@ fn table(
     let vertices = problem.vertices;
     let answer = interference::interference(problem, &mut words);
     match answer {
-        InterferenceAnswer::Refused(refusal) => refused(out, refusal, &words)?,
-        InterferenceAnswer::Filled(words_filled) => {
+        Err(refusal) => refused(out, refusal, &words)?,
+        Ok(words_filled) => {
             rows(out, vertices, count, functions, &words)?;
             filled(out, words_filled, &words)?;
         }
@@ -121,8 +116,8 @@ fn short(out: &mut impl Write, name: &[u8], problem: Problem) -> io::Result<()> 
     let mut words = [BLANK; 20];
     let answer = interference::interference(problem, &mut words);
     match answer {
-        InterferenceAnswer::Refused(refusal) => refused(out, refusal, &words)?,
-        InterferenceAnswer::Filled(words_filled) => filled(out, words_filled, &words)?,
+        Err(refusal) => refused(out, refusal, &words)?,
+        Ok(words_filled) => filled(out, words_filled, &words)?,
     }
     Ok(())
 }

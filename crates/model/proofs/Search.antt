@@ -1,6 +1,7 @@
 -- Laws of the search for the lowest number that passes a test: what a loop `while i < n` that stops at the first hit knows at each point, and what
 -- its answer says of the numbers below n.
 use Prim.Native.Nat.{ℕ, zero, suc, ◌+◌, ◌-◌, ◌≤◌, ◌<◌}
+use Rattle.std.specs.Prelude.{Err, Ok}
 use mathlib.Core.Path.{◌≡◌, refl, sym, ap, ◌∙◌}
 use mathlib.Core.Bool.{Bool, true, false, cond, ◌||◌}
 use native.Mathlib.Omega.{arith}
@@ -8,7 +9,6 @@ use native.Mathlib.Nat.{sub-zero}
 use lib.Dec.{eqb}
 use borrow.Author.Tests.{lt-ltb, le-ltb, ltb-true, ltb-false, eqb-true, eqb-false}
 use Rattle.model.specs.declared.Refusal.{Refusal}
-use Rattle.model.specs.declared.Verdict.TheVariants.{Accepted, Refused}
 use Rattle.model.specs.Search.{lowest_from, lowest_below, exists_below}
 use Rattle.model.specs.Graph.{broken}
 use Rattle.model.proofs.Cases.{by_bool, true_not_false}
@@ -37,7 +37,7 @@ module _ {n : ℕ} {test : ℕ → Bool} {i : ℕ} (searched : Searched n test i
     pub exists_hit : test i ≡ true → true ≡ exists_below n test
     exists_hit e = sym (lt-ltb (lowest_below n test) n (omega (arith, hit e)))
 
-    pub broken_hit : (refusal : ℕ → Refusal) → test i ≡ true → Refused (refusal i) ≡ broken n test refusal
+    pub broken_hit : (refusal : ℕ → Refusal) → test i ≡ true → Err (refusal i) ≡ broken n test refusal
     broken_hit refusal e = rw (← exists_hit e, ← hit e)
 
   module _ (over : n ≤ i) where
@@ -51,7 +51,7 @@ module _ {n : ℕ} {test : ℕ → Bool} {i : ℕ} (searched : Searched n test i
     pub exists_none : false ≡ exists_below n test
     exists_none = sym (le-ltb (lowest_below n test) n (omega (arith, none)))
 
-    pub broken_none : (refusal : ℕ → Refusal) → Accepted ≡ broken n test refusal
+    pub broken_none : (refusal : ℕ → Refusal) → Ok tt ≡ broken n test refusal
     broken_none refusal = rw (← exists_none)
 
 found_from : (left i : ℕ) (test : ℕ → Bool) → lowest_from left i test < i + left → test (lowest_from left i test) ≡ true

@@ -1,9 +1,7 @@
 -- The best layout, of document 02: for up to eight functions a grouping into regions that fits and whose bound is least.
-use Rattle.std.specs.Prelude.{ℕ, suc, ◌≤◌, ◌<◌, ◌≡◌, List, ◌⊎◌, length, get_or, eqb}
-use Rattle.model.specs.declared.Verdict.TheVariants as verdict
+use Rattle.std.specs.Prelude.{ℕ, suc, ◌≤◌, ◌<◌, ◌≡◌, List, ◌⊎◌, length, get_or, eqb, Ok}
 use Rattle.model.specs.declared.Problem.{Problem}
 use Rattle.model.specs.declared.Bound.{Bound}
-use Rattle.model.specs.declared.BoundAnswer.TheVariants.{Bounded}
 use Rattle.model.specs.declared.Best.{Best}
 use Rattle.model.specs.Numbers.{table}
 use Rattle.model.specs.Search.{lowest_below}
@@ -36,7 +34,7 @@ grouping_of p layout = table p.function_count (appearance (region_of layout))
 
 -- A layout *fits*: none of 11 to 13 applies.
 abbrev pub Fits : Problem → List ℕ → Type 0
-Fits p layout = judge_layout p layout ≡ verdict.Accepted
+Fits p layout = judge_layout p layout ≡ Ok tt
 
 -- A grouping with a bound and a need *ranks* before another or with it: a smaller bound; or an equal one and fewer bytes needed; or both equal, and the
 -- smaller region at the first difference, or no difference.
@@ -50,8 +48,8 @@ pub record BestIs (p : Problem) (regions : List ℕ) (best : Best) : Type 0 wher
   pub numbered : Numbered p.function_count regions
   pub functions_are : best.functions ≡ p.function_count
   pub bound : Bound
-  pub bounded : BoundSays p regions (Bounded bound)
+  pub bounded : BoundSays p regions (Ok bound)
   pub need_is : best.need ≡ bound.need
   pub bound_is : best.bound ≡ bound.bound
-  pub least : (layout : List ℕ) (b : Bound) → BoundSays p layout (Bounded b) →
+  pub least : (layout : List ℕ) (b : Bound) → BoundSays p layout (Ok b) →
       Ranks best.bound.0 best.need.0 regions b.bound.0 b.need.0 (grouping_of p layout)

@@ -1,6 +1,5 @@
 -- Runs of a drawn program with a call stack (2/14).
-use Rattle.std.specs.Prelude.{ℕ, ◌+◌, ◌≡◌, List, [], ◌∷◌, map, cond}
-use Rattle.std.proofs.Math.Option.{some, none}
+use Rattle.std.specs.Prelude.{ℕ, ◌+◌, ◌≡◌, List, [], ◌∷◌, map, cond, Some, None}
 use Rattle.model.specs.Graph.{loops_of}
 use Rattle.model.specs.Costs.{own_cost, load_cost, check_cost}
 use Rattle.model.specs.Layouts.{region_of}
@@ -29,9 +28,9 @@ module _ (d : List ℕ) where
   -- A call begins an activation at its first vertex; a vertex that calls nothing goes along an edge of its graph; at a graph's last vertex the
   -- activation ends, and its caller goes along an edge from the call vertex.
   pub data Step : Stack → Stack → Type 0 where
-    call : {f v g : ℕ} {h : List ℕ} {s : List Frame} → called_by d f v ≡ some g →
+    call : {f v g : ℕ} {h : List ℕ} {s : List Frame} → called_by d f v ≡ Some g →
         Step (stack (frame f v h) s) (stack (frame g 0 []) (frame f v h ∷ s))
-    go : {f v w : ℕ} {h : List ℕ} {s : List Frame} → called_by d f v ≡ none → EdgeOf (graph_of d f) v w →
+    go : {f v w : ℕ} {h : List ℕ} {s : List Frame} → called_by d f v ≡ None → EdgeOf (graph_of d f) v w →
         Step (stack (frame f v h) s) (stack (frame f w (v ∷ h)) s)
     back : {g v f u w : ℕ} {k h : List ℕ} {s : List Frame} → v ≡ last_vertex (graph_of d g) → EdgeOf (graph_of d f) u w →
         Step (stack (frame g v k) (frame f u h ∷ s)) (stack (frame f w (u ∷ h)) s)

@@ -1,7 +1,6 @@
 -- Drawings (2/14): one graph per function, where a vertex may call another function, as 44,226 numbers at fixed places: 0 scratchpad size, 1 number of
 -- functions, and each function's numbers behind those of the function before. What stands past a count is spare.
-use Rattle.std.specs.Prelude.{ℕ, ◌+◌, ◌-◌, ◌*◌, List, cond, get_or, eqb}
-use Rattle.std.proofs.Math.Option.{Option, some, none}
+use Rattle.std.specs.Prelude.{ℕ, ◌+◌, ◌-◌, ◌*◌, List, cond, get_or, eqb, Option, Some, None}
 use Rattle.model.specs.declared.Function.{Function}
 use Rattle.model.specs.declared.Vertex.{Vertex}
 use Rattle.model.specs.declared.Edge.{Edge}
@@ -41,12 +40,12 @@ abbrev pub no_callee : ℕ
 no_callee = 255
 
 abbrev pub callee_of : ℕ → Option ℕ
-callee_of n = cond (eqb n no_callee) none (some n)
+callee_of n = cond (eqb n no_callee) None (Some n)
 
 -- The callee, or function 0 where there is none.
 abbrev pub or_first : Option ℕ → ℕ
-or_first none = 0
-or_first (some g) = g
+or_first None = 0
+or_first (Some g) = g
 
 module _ (d : List ℕ) where
   abbrev pub drawn_scratchpad : ℕ

@@ -1,11 +1,10 @@
 -- The problem file, field by field: reading it into a problem's numbers, judging numbers as they would be written, and its bytes.
-use Rattle.std.specs.Prelude.{ℕ, zero, suc, ◌+◌, ◌*◌, ◌-◌, List, [], ◌++◌, Bool, true, cond, not, ◌&&◌, ◌||◌, length, get_or, set, replicate, eqb, ltb, leb}
+use Rattle.std.specs.Prelude.{ℕ, zero, suc, ◌+◌, ◌*◌, ◌-◌, List, [], ◌++◌, Bool, true, cond, not, ◌&&◌, ◌||◌, length, get_or, set, replicate, eqb, ltb, leb, Err, Ok, Result}
+use Rattle.model.specs.declared.Refusal.{Refusal}
+use Rattle.model.specs.declared.Misread.{Misread}
+use Rattle.model.specs.declared.Misread.TheVariants.{Ended, Misspelt}
 use Rattle.model.specs.declared.Refusal.TheVariants as refusal
-use Rattle.model.specs.declared.Number as spelt
-use Rattle.model.specs.declared.Number.TheVariants as number
 use Rattle.model.specs.declared.Field.{Field}
-use Rattle.model.specs.declared.FieldsAnswer.{FieldsAnswer}
-use Rattle.model.specs.declared.FieldsAnswer.TheVariants.{Done, Refused}
 use Rattle.model.specs.Spelling.{most_groups, read_number, number_size, number_bytes}
 use Rattle.model.specs.Limits.{first_edition}
 use Rattle.model.specs.Numbers.{table}
@@ -53,8 +52,8 @@ unfoldable pub unwritten : ℕ → Field → Bool
 unwritten edition c = eqb c.row rows.check && eqb edition first_edition
 
 -- The number at a field, read at a position, with the position after it; how many bytes its shortest spelling takes, and that spelling.
-unfoldable pub read_field : ℕ → List ℕ → ℕ → Field → spelt.Number
-read_field edition s at c = cond (unwritten edition c) (number.Value 0 at) (read_number s at)
+unfoldable pub read_field : ℕ → List ℕ → ℕ → Field → Result (ℕ × ℕ) Misread
+read_field edition s at c = cond (unwritten edition c) (Ok (0, at)) (read_number s at)
 
 unfoldable pub field_size : ℕ → Field → ℕ → ℕ
 field_size edition c v = cond (unwritten edition c) 0 (number_size v)
@@ -107,45 +106,45 @@ item_start c at start = cond (eqb (kind c.row) first_kind) at start
 
 -- What reading the fields leaves: the answer, and the numbers as far as they were read.
 pub record Scan : Type 0 where
-  pub answer : FieldsAnswer
+  pub answer : Result ℕ Refusal
   pub numbers : List ℕ
 
-abbrev pub scanned : FieldsAnswer → List ℕ → Scan
+abbrev pub scanned : Result ℕ Refusal → List ℕ → Scan
 scanned a l = record { answer = a; numbers = l }
 
 -- 1, the bytes end before a number does; 2, a misspelt number; or what is done with the number.
-abbrev pub on_number : spelt.Number → ℕ → ℕ → List ℕ → (ℕ → ℕ → Scan) → Scan
-on_number (number.Value v next) size at l go = go v next
-on_number number.Ended size at l go = scanned (Refused (refusal.EndsEarly size)) l
-on_number number.Misspelt size at l go = scanned (Refused (refusal.Misspelt at)) l
+abbrev pub on_number : Result (ℕ × ℕ) Misread → ℕ → ℕ → List ℕ → (ℕ → ℕ → Scan) → Scan
+on_number (Ok (v, next)) size at l go = go v next
+on_number (Err Ended) size at l go = scanned (Err (refusal.EndsEarly size)) l
+on_number (Err Misspelt) size at l go = scanned (Err (refusal.Misspelt at)) l
 
 -- Reads from the field c on, at most n fields, at a position of the bytes s, into the numbers l. 3, out of range; after an item's last number 4, not ascending.
 unfoldable pub read_from : ℕ → List ℕ → ℕ → ℕ → Field → List ℕ → Scan
-read_from zero s at start c l = scanned (Done at) l
+read_from zero s at start c l = scanned (Ok at) l
 read_from (suc n) s at start c l =
-    cond (at_end c) (scanned (Done at) l)
+    cond (at_end c) (scanned (Ok at) l)
     (on_number (read_field (edition_in l) s at c) (length s) at l (λ v next.
     cond (in_range l c v)
     (cond (ascends (set l c.place v) c)
     (read_from n s next (item_start c at start) (next_field c v) (set l c.place v))
-    (scanned (Refused (refusal.NotAscending (item_start c at start))) (set l c.place v)))
-    (scanned (Refused (refusal.OutOfRange at)) l)))
+    (scanned (Err (refusal.NotAscending (item_start c at start))) (set l c.place v)))
+    (scanned (Err (refusal.OutOfRange at)) l)))
 
 abbrev pub read_fields : List ℕ → Scan
 read_fields s = read_from number_count s 0 0 first_field (replicate number_count 0)
 
 -- The same judgement of numbers that are there already, placed by the bytes that they would be written as.
-unfoldable pub check_from : ℕ → ℕ → ℕ → Field → List ℕ → FieldsAnswer
-check_from zero at start c l = Done at
+unfoldable pub check_from : ℕ → ℕ → ℕ → Field → List ℕ → Result ℕ Refusal
+check_from zero at start c l = Ok at
 check_from (suc n) at start c l =
-    cond (at_end c) (Done at)
+    cond (at_end c) (Ok at)
     (cond (in_range l c (get_or l c.place 0))
     (cond (ascends l c)
     (check_from n (at + field_size (edition_in l) c (get_or l c.place 0)) (item_start c at start) (next_field c (get_or l c.place 0)) l)
-    (Refused (refusal.NotAscending (item_start c at start))))
-    (Refused (refusal.OutOfRange at)))
+    (Err (refusal.NotAscending (item_start c at start))))
+    (Err (refusal.OutOfRange at)))
 
-abbrev pub check_fields : List ℕ → FieldsAnswer
+abbrev pub check_fields : List ℕ → Result ℕ Refusal
 check_fields l = check_from number_count 0 0 first_field l
 
 -- The bytes of the fields from c on: each number in its shortest spelling.

@@ -1,9 +1,8 @@
 -- The graph: vertices 0 to n - 1, edges and loops as lists, and the rules 6 to 9, a whole rule at a time.
-use Rattle.std.specs.Prelude.{ℕ, ◌-◌, List, Bool, cond, not, ◌&&◌, ◌||◌, length, get_or, take, eqb, ltb, leb}
+use Rattle.std.specs.Prelude.{ℕ, ◌-◌, List, Bool, cond, not, ◌&&◌, ◌||◌, length, get_or, take, eqb, ltb, leb, Err, Ok}
+use Rattle.model.specs.Refusals.{Verdict}
 use Rattle.model.specs.declared.Refusal.{Refusal}
 use Rattle.model.specs.declared.Refusal.TheVariants.{MissingEdge, WrongLoop, WrongEdge, NoEdgeBack}
-use Rattle.model.specs.declared.Verdict.{Verdict}
-use Rattle.model.specs.declared.Verdict.TheVariants.{Accepted, Refused}
 use Rattle.model.specs.declared.Function.{Function}
 use Rattle.model.specs.declared.Vertex.{Vertex}
 use Rattle.model.specs.declared.Edge.{Edge}
@@ -75,12 +74,12 @@ no_return es l = not (exists_below (length es) (λ i. returns_to (edge es i) l))
 
 -- A rule is broken at the lowest number below n that fails it.
 abbrev pub broken : ℕ → (ℕ → Bool) → (ℕ → Refusal) → Verdict
-broken n test refusal = cond (exists_below n test) (Refused (refusal (lowest_below n test))) Accepted
+broken n test refusal = cond (exists_below n test) (Err (refusal (lowest_below n test))) (Ok tt)
 
 -- The next check, on the good case of the one before.
 abbrev pub and_then : Verdict → Verdict → Verdict
-and_then Accepted next = next
-and_then (Refused f) next = Refused f
+and_then (Ok _) next = next
+and_then (Err f) next = Err f
 
 -- The graph, a whole rule at a time.
 module _ (n : ℕ) (es : List Edge) (ls : List Loop) where

@@ -1,14 +1,11 @@
 -- **Inline** (2/14): which refusal applies first, or the one problem.
-use Rattle.std.specs.Prelude.{ℕ, zero, suc, ◌-◌, List, Bool, true, false, cond, ◌&&◌, ◌||◌, length, eqb, leb}
-use Rattle.std.proofs.Math.Option.{Option, some, none}
+use Rattle.std.specs.Prelude.{ℕ, zero, suc, ◌-◌, List, Bool, true, false, cond, ◌&&◌, ◌||◌, length, eqb, leb, Err, Ok, Result, Option, Some, None}
+use Rattle.model.specs.Refusals.{Verdict}
+use Rattle.model.specs.declared.Refusal.{Refusal}
 use Rattle.model.specs.declared.Refusal.TheVariants.{OutOfRange, Recursive, CountPassed, LastCalls}
-use Rattle.model.specs.declared.Verdict.{Verdict}
-use Rattle.model.specs.declared.Verdict.TheVariants as verdict
 use Rattle.model.specs.declared.Vertex.{Vertex}
 use Rattle.model.specs.declared.Problem.{Problem}
 use Rattle.model.specs.declared.Row.{Row}
-use Rattle.model.specs.declared.InlineAnswer.{InlineAnswer}
-use Rattle.model.specs.declared.InlineAnswer.TheVariants as inline
 use Rattle.model.specs.Refusals.{placed_at}
 use Rattle.model.specs.Zero.{bytes, cycles, zero_function, zero_vertex, zero_edge, zero_loop}
 use Rattle.model.specs.Places as places
@@ -23,16 +20,16 @@ use Rattle.model.specs.Drawings.{drawn_scratchpad, drawn_functions, drawn_count,
 use Rattle.model.specs.Inlining.{row_at, rows_up_to, inlined_edges, inlined_loops}
 
 abbrev pub is_refused : Verdict → Bool
-is_refused verdict.Accepted = false
-is_refused (verdict.Refused f) = true
+is_refused (Ok _) = false
+is_refused (Err f) = true
 
 abbrev pub calls_some : Option ℕ → Bool
-calls_some none = false
-calls_some (some g) = true
+calls_some None = false
+calls_some (Some g) = true
 
 abbrev pub calls_the : Option ℕ → ℕ → Bool
-calls_the none g = false
-calls_the (some h) g = eqb h g
+calls_the None g = false
+calls_the (Some h) g = eqb h g
 
 -- With these calls f can reach g, with no function between but those below k.
 unfoldable pub via : (ℕ → ℕ → Bool) → ℕ → ℕ → ℕ → Bool
@@ -45,20 +42,20 @@ in_limits row v = leb (least row) v && leb v (greatest row)
 
 -- A verdict with f as place.
 abbrev pub placed_in : ℕ → Verdict → Verdict
-placed_in f verdict.Accepted = verdict.Accepted
-placed_in f (verdict.Refused r) = verdict.Refused (placed_at r f)
+placed_in f (Ok _) = Ok tt
+placed_in f (Err r) = Err (placed_at r f)
 
 -- Inline's answer, where this is the verdict on the drawing and the problem is built of it.
-abbrev pub inline_verdict : Verdict → Problem → InlineAnswer
-inline_verdict verdict.Accepted p = inline.Accepted p
-inline_verdict (verdict.Refused f) p = inline.Refused f
+abbrev pub inline_verdict : Verdict → Problem → Result Problem Refusal
+inline_verdict (Ok _) p = Ok p
+inline_verdict (Err f) p = Err f
 
 module _ (d : List ℕ) where
   -- 3 at 0: a bad scratchpad size or function count.
   unfoldable pub judge_head : Verdict
   judge_head =
-      cond (in_limits rows.scratchpad (drawn_scratchpad d) && in_limits rows.function_count (drawn_functions d)) verdict.Accepted
-      (verdict.Refused (OutOfRange 0))
+      cond (in_limits rows.scratchpad (drawn_scratchpad d) && in_limits rows.function_count (drawn_functions d)) (Ok tt)
+      (Err (OutOfRange 0))
 
   -- Then the lowest function that breaks 3, 4 or 6 to 9, in Write's order, with itself as place.
   abbrev pub bad_graph : ℕ → Bool
@@ -68,7 +65,7 @@ module _ (d : List ℕ) where
   first_bad = lowest_below (drawn_functions d) bad_graph
 
   unfoldable pub judge_graphs : Verdict
-  judge_graphs = cond (exists_below (drawn_functions d) bad_graph) (placed_in first_bad (judge_problem (graph_of d first_bad))) verdict.Accepted
+  judge_graphs = cond (exists_below (drawn_functions d) bad_graph) (placed_in first_bad (judge_problem (graph_of d first_bad))) (Ok tt)
 
   -- Then 20, a graph's last vertex calls.
   abbrev pub last_calls : ℕ → Bool
@@ -96,7 +93,7 @@ module _ (d : List ℕ) where
   judge_counts =
       cond (leb (length inlined_rows) places.most_vertices
       && (leb (length (inlined_edges d inlined_rows)) places.most_edges && leb (length (inlined_loops d inlined_rows)) places.most_loops))
-      verdict.Accepted (verdict.Refused (CountPassed 0))
+      (Ok tt) (Err (CountPassed 0))
 
   unfoldable pub judge_drawing : Verdict
   judge_drawing = and_then judge_head (and_then judge_graphs (and_then judge_last (and_then judge_calls judge_counts)))
@@ -120,5 +117,5 @@ module _ (d : List ℕ) where
       }
 
   -- **Inline.**
-  unfoldable pub inline_drawing : InlineAnswer
+  unfoldable pub inline_drawing : Result Problem Refusal
   inline_drawing = inline_verdict judge_drawing inlined_problem

@@ -1,7 +1,6 @@
 -- One problem from a drawing (2/14): its vertices, edges and loops.
-use Rattle.std.specs.Prelude.{ℕ, zero, suc, ◌+◌, ◌-◌, cond, ◌&&◌, length, get_or, eqb, ltb}
+use Rattle.std.specs.Prelude.{ℕ, zero, suc, ◌+◌, ◌-◌, cond, ◌&&◌, length, get_or, eqb, ltb, Option, Some, None}
 use mathlib.Core.List.{List, [], ◌∷◌, ◌++◌, flat_map}
-use Rattle.std.proofs.Math.Option.{Option, some, none}
 use Rattle.model.specs.declared.Edge.{Edge}
 use Rattle.model.specs.declared.Loop.{Loop}
 use Rattle.model.specs.declared.Row.{Row}
@@ -18,8 +17,8 @@ abbrev pub row_at : List Row → ℕ → Row
 row_at rows i = get_or rows i (row 0 0 0)
 
 abbrev pub extended : List Row → Option Row → List Row
-extended rows none = rows
-extended rows (some r) = rows ++ (r ∷ [])
+extended rows None = rows
+extended rows (Some r) = rows ++ (r ∷ [])
 
 -- Vertex w of the copy that begins at b.
 unfoldable pub number_in : List Row → ℕ → ℕ → ℕ
@@ -29,12 +28,12 @@ module _ (d : List ℕ) where
   -- A copy of the callee follows its call vertex; behind a copy's last vertex its caller's copy goes on.
   abbrev pub behind : Row → Row → Option Row
   behind r p =
-      cond (ltb (r.vertex + 1) (drawn_count d r.function)) (some (row r.function (r.vertex + 1) r.first))
-      (cond (eqb r.first 0) none (some (row p.function (p.vertex + 1) p.first)))
+      cond (ltb (r.vertex + 1) (drawn_count d r.function)) (Some (row r.function (r.vertex + 1) r.first))
+      (cond (eqb r.first 0) None (Some (row p.function (p.vertex + 1) p.first)))
 
   abbrev pub after : Option ℕ → Row → Row → ℕ → Option Row
-  after (some g) r p i = some (row g 0 (i + 1))
-  after none r p i = behind r p
+  after (Some g) r p i = Some (row g 0 (i + 1))
+  after None r p i = behind r p
 
   unfoldable pub row_after : List Row → ℕ → Option Row
   row_after rows i = after (called_by d (row_at rows i).function (row_at rows i).vertex) (row_at rows i) (row_at rows ((row_at rows i).first - 1)) i
@@ -63,8 +62,8 @@ module _ (d : List ℕ) where
 
     -- The call vertex leads to the copy's first vertex.
     abbrev pub edges_from : Option ℕ → ℕ → Row → List Edge
-    edges_from (some g) i r = record { from = i; to = i + 1 } ∷ []
-    edges_from none i r = out_of i r
+    edges_from (Some g) i r = record { from = i; to = i + 1 } ∷ []
+    edges_from None i r = out_of i r
 
     unfoldable pub inlined_edges : List Edge
     inlined_edges = flat_map (λ i. edges_from (called_by d (row_at rows i).function (row_at rows i).vertex) i (row_at rows i)) (table (length rows) (λ i. i))

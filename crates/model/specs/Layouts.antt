@@ -1,8 +1,7 @@
 -- Layouts: the region of each function, the bytes needed, and the refusals 11 to 13.
-use Rattle.std.specs.Prelude.{ℕ, zero, suc, ◌-◌, List, [], ◌∷◌, ◌++◌, Bool, cond, not, length, get_or, eqb, ltb}
+use Rattle.std.specs.Prelude.{ℕ, zero, suc, ◌-◌, List, [], ◌∷◌, ◌++◌, Bool, cond, not, length, get_or, eqb, ltb, Err, Ok}
+use Rattle.model.specs.Refusals.{Verdict}
 use Rattle.model.specs.declared.Refusal.TheVariants.{LayoutTooLong, UnknownRegion, ScratchpadTooSmall}
-use Rattle.model.specs.declared.Verdict.{Verdict}
-use Rattle.model.specs.declared.Verdict.TheVariants.{Accepted, Refused}
 use Rattle.model.specs.declared.Problem.{Problem}
 use Rattle.model.specs.Search.{lowest_below, exists_below}
 use Rattle.model.specs.Graph.{and_then, broken}
@@ -40,7 +39,7 @@ need_of p layout = total most_regions (largest_in p layout)
 
 -- 11, longer than the functions (their number).
 abbrev pub judge_length : Problem → List ℕ → Verdict
-judge_length p layout = cond (ltb p.function_count (length layout)) (Refused (LayoutTooLong p.function_count)) Accepted
+judge_length p layout = cond (ltb p.function_count (length layout)) (Err (LayoutTooLong p.function_count)) (Ok tt)
 
 -- 12, a region above 31 (lowest function).
 abbrev pub judge_regions : Problem → List ℕ → Verdict
@@ -48,7 +47,7 @@ judge_regions p layout = broken p.function_count (λ f. ltb (most_regions - 1) (
 
 -- 13, it needs more than the scratchpad (bytes needed).
 abbrev pub judge_need : Problem → ℕ → Verdict
-judge_need p need = cond (ltb p.scratchpad.0 need) (Refused (ScratchpadTooSmall need)) Accepted
+judge_need p need = cond (ltb p.scratchpad.0 need) (Err (ScratchpadTooSmall need)) (Ok tt)
 
 unfoldable pub judge_layout : Problem → List ℕ → Verdict
 judge_layout p layout = and_then (judge_length p layout) (and_then (judge_regions p layout) (judge_need p (need_of p layout)))

@@ -1,9 +1,11 @@
 -- Refusals: the documents' number and place of each.
-use Rattle.std.specs.Prelude.{ℕ, ◌-◌, ◌≡◌, List, [], ◌∷◌, get_or}
+use Rattle.std.specs.Prelude.{ℕ, ◌-◌, ◌≡◌, List, [], ◌∷◌, get_or, Result}
 use Rattle.model.specs.declared.Refusal.{Refusal}
 use Rattle.model.specs.declared.Refusal.TheVariants.{EndsEarly, Misspelt, OutOfRange, NotAscending, LeftOver, MissingEdge, WrongLoop, WrongEdge, NoEdgeBack, BufferTooShort, LayoutTooLong, UnknownRegion, ScratchpadTooSmall, BoundTooLarge, WrongStep, BeyondBound, WalkTooLong, Recursive, CountPassed, LastCalls, UnknownVertex, NoSentence}
-use Rattle.model.specs.declared.Verdict.{Verdict}
-use Rattle.model.specs.declared.Verdict.TheVariants as verdict
+
+-- A *verdict* is what a check without a result says: nothing, or the refusal that applies.
+abbrev pub Verdict : Type 0
+Verdict = Result (Unit {0}) Refusal
 
 abbrev pub number : Refusal → ℕ
 number (EndsEarly at) = 1
@@ -112,7 +114,3 @@ placed_at (CountPassed at) k = CountPassed k
 placed_at (LastCalls at) k = LastCalls k
 placed_at (UnknownVertex at) k = UnknownVertex k
 placed_at (NoSentence at) k = NoSentence k
-
--- A verdict that refuses.
-abbrev pub Refuses : Verdict → Type 0
-Refuses v = (f : Refusal) × (v ≡ verdict.Refused f)

@@ -1,20 +1,14 @@
 -- Interference, Bound, Run and Eviction: what each gives.
-use Rattle.std.specs.Prelude.{ℕ, ◌+◌, ◌*◌, ◌/◌, ◌%◌, ◌^◌, ◌≤◌, ◌<◌, ◌≡◌, List, ◌∷◌, reverse, Bool, ◌⊎◌, ◌↔◌, length, get_or}
+use Rattle.std.specs.Prelude.{ℕ, ◌+◌, ◌*◌, ◌/◌, ◌%◌, ◌^◌, ◌≤◌, ◌<◌, ◌≡◌, List, ◌∷◌, reverse, Bool, ◌⊎◌, ◌↔◌, length, get_or, Err, Ok, Result}
+use Rattle.model.specs.Refusals.{Verdict}
+use Rattle.model.specs.declared.Refusal.{Refusal}
+use Rattle.model.specs.declared.Run.{Run}
+use Rattle.model.specs.declared.Eviction.{Eviction}
 use Rattle.std.proofs.lemmas.List.Edits.{sets}
 use Rattle.model.specs.declared.Refusal.TheVariants.{BufferTooShort, BoundTooLarge}
-use Rattle.model.specs.declared.Verdict.{Verdict}
-use Rattle.model.specs.declared.Verdict.TheVariants as verdict
 use Rattle.model.specs.declared.Problem.{Problem}
-use Rattle.model.specs.declared.InterferenceAnswer.{InterferenceAnswer}
-use Rattle.model.specs.declared.InterferenceAnswer.TheVariants as interference
 use Rattle.model.specs.declared.Bound.{Bound}
-use Rattle.model.specs.declared.BoundAnswer.{BoundAnswer}
-use Rattle.model.specs.declared.BoundAnswer.TheVariants as bound
-use Rattle.model.specs.declared.RunAnswer.{RunAnswer}
-use Rattle.model.specs.declared.RunAnswer.TheVariants as run
 use Rattle.model.specs.declared.Reason.{Reason}
-use Rattle.model.specs.declared.EvictionAnswer.{EvictionAnswer}
-use Rattle.model.specs.declared.EvictionAnswer.TheVariants as eviction
 use Rattle.model.specs.Zero.{cycles as cycles_of}
 use Rattle.model.specs.Places.{most_vertices}
 use Rattle.model.specs.Limits.{most_regions}
@@ -40,9 +34,9 @@ pub record Sets (p : Problem) (words after : List ℕ) (count : ℕ) : Type 0 wh
   pub later : (k : ℕ) → count ≤ k → get_or after k 0 ≡ get_or words k 0
   pub long : length after ≡ length words
 
-abbrev pub InterferenceSays : Problem → List ℕ → List ℕ → InterferenceAnswer → Type 0
-InterferenceSays p words after (interference.Filled count) = (judge_interference p (length words) ≡ verdict.Accepted) × Sets p words after count
-InterferenceSays p words after (interference.Refused f) = (judge_interference p (length words) ≡ verdict.Refused f) × (after ≡ words)
+abbrev pub InterferenceSays : Problem → List ℕ → List ℕ → Result ℕ Refusal → Type 0
+InterferenceSays p words after (Ok count) = (judge_interference p (length words) ≡ Ok tt) × Sets p words after count
+InterferenceSays p words after (Err f) = (judge_interference p (length words) ≡ Err f) × (after ≡ words)
 
 -- The bound's limit.
 abbrev pub bound_limit : ℕ
@@ -79,45 +73,45 @@ pub record PastTheLimit (p : Problem) (layout : List ℕ) : Type 0 where
 
 -- A layout is *accepted* with a problem if none of Bound's refusals applies.
 abbrev pub AcceptedWith : Problem → List ℕ → Type 0
-AcceptedWith p layout = (judge_bound p layout ≡ verdict.Accepted) × (PastTheLimit p layout → ⊥)
+AcceptedWith p layout = (judge_bound p layout ≡ Ok tt) × (PastTheLimit p layout → ⊥)
 
-abbrev pub BoundSays : Problem → List ℕ → BoundAnswer → Type 0
-BoundSays p layout (bound.Bounded b) = (judge_bound p layout ≡ verdict.Accepted) × BoundIs p layout b
-BoundSays p layout (bound.Refused f) =
-    (judge_bound p layout ≡ verdict.Refused f) ⊎ ((judge_bound p layout ≡ verdict.Accepted) × (f ≡ BoundTooLarge 0) × PastTheLimit p layout)
+abbrev pub BoundSays : Problem → List ℕ → Result Bound Refusal → Type 0
+BoundSays p layout (Ok b) = (judge_bound p layout ≡ Ok tt) × BoundIs p layout b
+BoundSays p layout (Err f) =
+    (judge_bound p layout ≡ Err f) ⊎ ((judge_bound p layout ≡ Ok tt) × (f ≡ BoundTooLarge 0) × PastTheLimit p layout)
 
 -- **Run**: cycles, and loads counted as they occur.
-abbrev pub run_after : Verdict → Problem → List ℕ → List ℕ → RunAnswer
-run_after verdict.Accepted p layout walk = run.Ran (record { cycles = cycles_of (cycles p layout (reverse walk)); loads = loads p layout (reverse walk) })
-run_after (verdict.Refused f) p layout walk = run.Refused f
+abbrev pub run_after : Verdict → Problem → List ℕ → List ℕ → Result Run Refusal
+run_after (Ok _) p layout walk = Ok (record { cycles = cycles_of (cycles p layout (reverse walk)); loads = loads p layout (reverse walk) })
+run_after (Err f) p layout walk = Err f
 
-unfoldable pub run_walk : Problem → List ℕ → List ℕ → RunAnswer
+unfoldable pub run_walk : Problem → List ℕ → List ℕ → Result Run Refusal
 run_walk p layout walk = run_after (judge_run p layout walk) p layout walk
 
 -- What the lent regions hold afterwards: the function held in each, 255 for none; after a refusal what they held.
 abbrev pub regions_after : Verdict → Problem → List ℕ → List ℕ → List ℕ → List ℕ
-regions_after verdict.Accepted p layout walk regions = table most_regions (held_after p layout (reverse walk))
-regions_after (verdict.Refused f) p layout walk regions = regions
+regions_after (Ok _) p layout walk regions = table most_regions (held_after p layout (reverse walk))
+regions_after (Err f) p layout walk regions = regions
 
 unfoldable pub run_regions : Problem → List ℕ → List ℕ → List ℕ → List ℕ
 run_regions p layout walk regions = regions_after (judge_run p layout walk) p layout walk regions
 
 -- **Eviction**: the reason and the walk's entries, and the walk at the front of the lent buffer. Last 10, the buffer has fewer entries than the walk (entries
 -- needed). The buffer's other entries keep their values, after a refusal all of them.
-abbrev pub EvictionSays : Problem → List ℕ → ℕ → List ℕ → List ℕ → EvictionAnswer → Type 0
-EvictionSays p layout v before after (eviction.Shown e) =
-    (judge_eviction p layout v ≡ verdict.Accepted)
+abbrev pub EvictionSays : Problem → List ℕ → ℕ → List ℕ → List ℕ → Result Eviction Refusal → Type 0
+EvictionSays p layout v before after (Ok e) =
+    (judge_eviction p layout v ≡ Ok tt)
     × ((walk : List ℕ) × EvictionIs p layout v e.reason walk × (e.count ≡ length walk) × (length walk ≤ length before) × (after ≡ sets before 0 walk))
-EvictionSays p layout v before after (eviction.Refused f) =
+EvictionSays p layout v before after (Err f) =
     (after ≡ before)
-    × ((judge_eviction p layout v ≡ verdict.Refused f)
-    ⊎ ((judge_eviction p layout v ≡ verdict.Accepted)
+    × ((judge_eviction p layout v ≡ Err f)
+    ⊎ ((judge_eviction p layout v ≡ Ok tt)
     × ((reason : Reason) × (walk : List ℕ) × EvictionIs p layout v reason walk × (length before < length walk) × (f ≡ BufferTooShort (length walk)))))
 
 -- No walk that Eviction shows is longer, two entries a vertex: with room for as many it never says 10.
 abbrev pub most_shown : ℕ
 most_shown = 2 * most_vertices
 
-abbrev pub EvictionFits : Problem → List ℕ → ℕ → List ℕ → EvictionAnswer → Type 0
-EvictionFits p layout v before (eviction.Shown e) = e.count ≤ most_shown
-EvictionFits p layout v before (eviction.Refused f) = most_shown ≤ length before → judge_eviction p layout v ≡ verdict.Refused f
+abbrev pub EvictionFits : Problem → List ℕ → ℕ → List ℕ → Result Eviction Refusal → Type 0
+EvictionFits p layout v before (Ok e) = e.count ≤ most_shown
+EvictionFits p layout v before (Err f) = most_shown ≤ length before → judge_eviction p layout v ≡ Err f

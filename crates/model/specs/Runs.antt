@@ -1,6 +1,5 @@
 -- Interference and charges: a run. It starts with all regions empty; each visit finds the regions as the visits before left them.
-use Rattle.std.specs.Prelude.{ℕ, ◌+◌, List, [], ◌∷◌, Bool, false, cond, eqb}
-use Rattle.std.proofs.Math.Option.{Option, some, none}
+use Rattle.std.specs.Prelude.{ℕ, ◌+◌, List, [], ◌∷◌, Bool, false, cond, eqb, Option, Some, None}
 use Rattle.model.specs.declared.Problem.{Problem}
 use Rattle.model.specs.Costs.{function_of, own_cost, load_cost, check_cost}
 use Rattle.model.specs.Layouts.{region_of}
@@ -8,12 +7,12 @@ use Rattle.model.specs.Layouts.{region_of}
 module _ (fn : ℕ → ℕ) (region : ℕ → ℕ) where
   -- The function that region r holds after a history, if any: that of the latest visit to a function of the region.
   unfoldable pub held : ℕ → List ℕ → Option ℕ
-  held r [] = none
-  held r (v ∷ h) = cond (eqb (region (fn v)) r) (some (fn v)) (held r h)
+  held r [] = None
+  held r (v ∷ h) = cond (eqb (region (fn v)) r) (Some (fn v)) (held r h)
 
   abbrev pub is_held : Option ℕ → ℕ → Bool
-  is_held none f = false
-  is_held (some g) f = eqb g f
+  is_held None f = false
+  is_held (Some g) f = eqb g f
 
   -- After h, a visit to v finds its function held in its region.
   abbrev pub hit : ℕ → List ℕ → Bool
@@ -40,8 +39,8 @@ module _ (p : Problem) (layout : List ℕ) where
 
   -- The function held in a region afterwards, 255 for none.
   abbrev pub held_number : Option ℕ → ℕ
-  held_number none = 255
-  held_number (some f) = f
+  held_number None = 255
+  held_number (Some f) = f
 
   unfoldable pub held_after : List ℕ → ℕ → ℕ
   held_after h r = held_number (held (function_of p) (region_of layout) r h)

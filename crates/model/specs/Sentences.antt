@@ -1,17 +1,13 @@
 -- Sentences, of document 02: a refusal or a reason in fixed phrases and decimal numbers, and which text reads as which.
-use Rattle.std.specs.Prelude.{ℕ, suc, ◌-◌, ◌^◌, ◌≤◌, ◌<◌, ◌≡◌, List, [], ◌∷◌, ◌++◌, Bool, true, cond, length, take, get_or, ltb, leb}
+use Rattle.std.specs.Prelude.{ℕ, suc, ◌-◌, ◌^◌, ◌≤◌, ◌<◌, ◌≡◌, List, [], ◌∷◌, ◌++◌, Bool, true, cond, length, take, get_or, ltb, leb, Err, Ok, Result}
+use Rattle.model.specs.Refusals.{Verdict}
+use Rattle.model.specs.declared.Refusal.{Refusal}
 use Prim.Native.String.{String}
 use Rattle.std.proofs.lemmas.List.Edits.{sets}
 use Rattle.model.specs.declared.Refusal.TheVariants.{OutOfRange, BufferTooShort, NoSentence}
 use Rattle.model.specs.declared.Reason.TheVariants.{EveryVisit, FirstLoad, Never}
-use Rattle.model.specs.declared.Verdict.{Verdict}
-use Rattle.model.specs.declared.Verdict.TheVariants as verdict
 use Rattle.model.specs.declared.Remark.{Remark}
 use Rattle.model.specs.declared.Remark.TheVariants as remark
-use Rattle.model.specs.declared.WordAnswer.{WordAnswer}
-use Rattle.model.specs.declared.WordAnswer.TheVariants as word
-use Rattle.model.specs.declared.SentenceAnswer.{SentenceAnswer}
-use Rattle.model.specs.declared.SentenceAnswer.TheVariants as read
 use Rattle.model.specs.Refusals.{number, place}
 use Rattle.model.specs.Places.{most_functions}
 use Rattle.model.specs.Graph.{and_then}
@@ -77,22 +73,22 @@ Wordable r = wordable r ≡ true
 -- **Word** into a buffer of `room` bytes: 3, the reason names a function above 31 (a place of 64 bits is in range); then 10, the buffer is too short (bytes
 -- needed).
 abbrev pub judge_remark : Remark → Verdict
-judge_remark r = cond (wordable r) verdict.Accepted (verdict.Refused (OutOfRange 0))
+judge_remark r = cond (wordable r) (Ok tt) (Err (OutOfRange 0))
 
 abbrev pub judge_room : ℕ → ℕ → Verdict
-judge_room need room = cond (ltb room need) (verdict.Refused (BufferTooShort need)) verdict.Accepted
+judge_room need room = cond (ltb room need) (Err (BufferTooShort need)) (Ok tt)
 
-abbrev pub word_verdict : Verdict → ℕ → WordAnswer
-word_verdict verdict.Accepted need = word.Worded need
-word_verdict (verdict.Refused f) need = word.Refused f
+abbrev pub word_verdict : Verdict → ℕ → Result ℕ Refusal
+word_verdict (Ok _) need = Ok need
+word_verdict (Err f) need = Err f
 
-unfoldable pub word_remark : Remark → ℕ → WordAnswer
+unfoldable pub word_remark : Remark → ℕ → Result ℕ Refusal
 word_remark r room = word_verdict (and_then (judge_remark r) (judge_room (length (sentence r)) room)) (length (sentence r))
 
 -- What the buffer holds afterwards: the sentence, and past it what it held; on a refusal all that it held.
-abbrev pub after_word : WordAnswer → Remark → List ℕ → List ℕ
-after_word (word.Worded n) r buf = sets buf 0 (sentence r)
-after_word (word.Refused f) r buf = buf
+abbrev pub after_word : Result ℕ Refusal → Remark → List ℕ → List ℕ
+after_word (Ok n) r buf = sets buf 0 (sentence r)
+after_word (Err f) r buf = buf
 
 abbrev pub worded_buffer : Remark → List ℕ → List ℕ
 worded_buffer r buf = after_word (word_remark r (length buf)) r buf
@@ -103,8 +99,8 @@ Begins t = (rest : List ℕ) × (r : Remark) × Wordable r × (t ++ rest ≡ sen
 
 -- **Read-sentence**: the remark whose sentence the bytes are, to the last byte; or 22, with the length of the longest front that some sentence begins with.
 -- That is the first byte that fits no continuation, and the length where all of it fits.
-abbrev pub ReadsAs : List ℕ → SentenceAnswer → Type 0
-ReadsAs s (read.Meant r) = Wordable r × (s ≡ sentence r)
-ReadsAs s (read.Refused f) =
+abbrev pub ReadsAs : List ℕ → Result Remark Refusal → Type 0
+ReadsAs s (Ok r) = Wordable r × (s ≡ sentence r)
+ReadsAs s (Err f) =
     ((r : Remark) → Wordable r → s ≡ sentence r → ⊥)
     × ((k : ℕ) × (f ≡ NoSentence k) × (k ≤ length s) × Begins (take k s) × (k < length s → Begins (take (suc k) s) → ⊥))

@@ -1,11 +1,8 @@
 -- The program `marksheet`: the slip that it prints for a problem file and a layout, as bytes.
-use Rattle.std.specs.Prelude.{ℕ, ◌≡◌, List, ◌++◌}
+use Rattle.std.specs.Prelude.{ℕ, ◌≡◌, List, ◌++◌, Err, Ok, Result}
+use Rattle.model.specs.declared.Problem.{Problem}
 use Rattle.model.specs.declared.Refusal.{Refusal}
 use Rattle.model.specs.declared.Bound.{Bound}
-use Rattle.model.specs.declared.BoundAnswer.{BoundAnswer}
-use Rattle.model.specs.declared.BoundAnswer.TheVariants as bound
-use Rattle.model.specs.declared.ReadAnswer.{ReadAnswer}
-use Rattle.model.specs.declared.ReadAnswer.TheVariants as read
 use Rattle.model.specs.Refusals.{number, place}
 use Rattle.model.specs.Operations.{read_file}
 use Rattle.model.specs.Results.{BoundSays}
@@ -27,22 +24,22 @@ result_lines b =
     ++ line (text "first ") b.first.0
     ++ line (text "bound ") b.bound.0
 
-abbrev pub bound_slip : BoundAnswer → List ℕ
-bound_slip (bound.Bounded b) = result_lines b
-bound_slip (bound.Refused f) = refusal_line f
+abbrev pub bound_slip : Result Bound Refusal → List ℕ
+bound_slip (Ok b) = result_lines b
+bound_slip (Err f) = refusal_line f
 
 -- By Read's answer, and Bound's where Read accepts: the problem file is judged before the layout.
-abbrev pub slip_bytes : ReadAnswer → BoundAnswer → List ℕ
-slip_bytes (read.Accepted p) answer = bound_slip answer
-slip_bytes (read.Refused f) answer = refusal_line f
+abbrev pub slip_bytes : Result Problem Refusal → Result Bound Refusal → List ℕ
+slip_bytes (Ok p) answer = bound_slip answer
+slip_bytes (Err f) answer = refusal_line f
 
 -- What Bound says of the problem that Read accepted. Of a file that Read refuses Bound is not asked.
-abbrev pub BoundAfter : ReadAnswer → List ℕ → BoundAnswer → Type 0
-BoundAfter (read.Accepted p) layout answer = BoundSays p layout answer
-BoundAfter (read.Refused f) layout answer = Unit {0}
+abbrev pub BoundAfter : Result Problem Refusal → List ℕ → Result Bound Refusal → Type 0
+BoundAfter (Ok p) layout answer = BoundSays p layout answer
+BoundAfter (Err f) layout answer = Unit {0}
 
 -- **marksheet** prints this slip for a problem file and a layout.
 pub record SlipIs (file layout slip : List ℕ) : Type 0 where
-  pub answer : BoundAnswer
+  pub answer : Result Bound Refusal
   pub says : BoundAfter (read_file file) layout answer
   pub bytes : slip ≡ slip_bytes (read_file file) answer

@@ -1,10 +1,8 @@
 -- Interference, Bound, Run and Eviction: the order of their checks. Each goes on only with the good case of the check before it.
-use Rattle.std.specs.Prelude.{ℕ, ◌+◌, ◌*◌, List, [], ◌∷◌, Bool, false, cond, ◌&&◌, length, eqb, ltb}
+use Rattle.std.specs.Prelude.{ℕ, ◌+◌, ◌*◌, List, [], ◌∷◌, Bool, false, cond, ◌&&◌, length, eqb, ltb, Err, Ok, Result}
+use Rattle.model.specs.Refusals.{Verdict}
+use Rattle.model.specs.declared.Refusal.{Refusal}
 use Rattle.model.specs.declared.Refusal.TheVariants.{BufferTooShort, WrongStep, BeyondBound, WalkTooLong, UnknownVertex}
-use Rattle.model.specs.declared.Verdict.{Verdict}
-use Rattle.model.specs.declared.Verdict.TheVariants.{Accepted, Refused}
-use Rattle.model.specs.declared.FieldsAnswer.{FieldsAnswer}
-use Rattle.model.specs.declared.FieldsAnswer.TheVariants as fields
 use Rattle.model.specs.declared.Problem.{Problem}
 use Rattle.model.specs.Search.{exists_below}
 use Rattle.model.specs.Graph.{edge, loop, edges_of, loops_of, and_then}
@@ -13,9 +11,9 @@ use Rattle.model.specs.Layouts.{judge_layout}
 use Rattle.model.specs.Operations.{check_problem}
 
 -- As in Write through 9.
-abbrev pub as_verdict : FieldsAnswer → Verdict
-as_verdict (fields.Done need) = Accepted
-as_verdict (fields.Refused f) = Refused f
+abbrev pub as_verdict : Result ℕ Refusal → Verdict
+as_verdict (Ok need) = Ok tt
+as_verdict (Err f) = Err f
 
 unfoldable pub judge_problem : Problem → Verdict
 judge_problem p = as_verdict (check_problem p)
@@ -26,7 +24,7 @@ word_count p = p.vertex_count * p.function_count
 
 unfoldable pub judge_interference : Problem → ℕ → Verdict
 judge_interference p room =
-    and_then (judge_problem p) (cond (ltb room (word_count p)) (Refused (BufferTooShort (word_count p))) Accepted)
+    and_then (judge_problem p) (cond (ltb room (word_count p)) (Err (BufferTooShort (word_count p))) (Ok tt))
 
 -- **Bound**, through 13. (14 is about the bound itself.)
 unfoldable pub judge_bound : Problem → List ℕ → Verdict
@@ -51,11 +49,11 @@ module _ (p : Problem) where
 
   -- 15 before 16 at one position; an end that is not the last vertex is 15 at the length.
   unfoldable pub judge_walk : List ℕ → ℕ → List ℕ → Verdict
-  judge_walk h k [] = cond (at_last h) Accepted (Refused (WrongStep k))
+  judge_walk h k [] = cond (at_last h) (Ok tt) (Err (WrongStep k))
   judge_walk h k (v ∷ rest) =
       cond (ltb v p.vertex_count && may_follow h v)
-      (cond (past_bound h v) (Refused (BeyondBound k)) (judge_walk (v ∷ h) (k + 1) rest))
-      (Refused (WrongStep k))
+      (cond (past_bound h v) (Err (BeyondBound k)) (judge_walk (v ∷ h) (k + 1) rest))
+      (Err (WrongStep k))
 
 -- The longest walk that Run takes.
 abbrev pub walk_limit : ℕ
@@ -65,11 +63,11 @@ walk_limit = 1000000
 unfoldable pub judge_run : Problem → List ℕ → List ℕ → Verdict
 judge_run p layout walk =
     and_then (judge_bound p layout)
-    (cond (ltb walk_limit (length walk)) (Refused (WalkTooLong walk_limit)) (judge_walk p [] 0 walk))
+    (cond (ltb walk_limit (length walk)) (Err (WalkTooLong walk_limit)) (judge_walk p [] 0 walk))
 
 -- 21, the vertex is unknown (its number).
 abbrev pub judge_vertex : Problem → ℕ → Verdict
-judge_vertex p v = cond (ltb v p.vertex_count) Accepted (Refused (UnknownVertex v))
+judge_vertex p v = cond (ltb v p.vertex_count) (Ok tt) (Err (UnknownVertex v))
 
 -- **Eviction**: as Bound through 13; then the vertex. (10 is about the walk itself.)
 unfoldable pub judge_eviction : Problem → List ℕ → ℕ → Verdict

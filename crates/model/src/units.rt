@@ -1,30 +1,29 @@
-// Sums of bytes and of cycles, and the larger of two. No sum takes one of each.
-ghost use Rattle.std.specs.Prelude.{◌≡◌, ◌+◌, ◌≤◌, max};
+// Sums of bytes and of cycles. No sum takes one of each.
+ghost use Rattle.std.specs.Prelude.{◌≡◌, ◌+◌, ◌≤◌};
 
 use crate::{Bytes, Cycles};
+use std::ops::Add;
 
-pub fn sum_of_bytes(a: Bytes, b: Bytes) -> Bytes
-    requires { a.0 + b.0 ≤ 18446744073709551615 }
-    ensures { result.0 ≡ a.0 + b.0 }
-{
-    Bytes(a.0 + b.0)
+impl Add for Bytes {
+    type Output = Bytes;
+
+    ghost can_add = { λ a b. a.0 + b.0 ≤ 18446744073709551615 };
+
+    ghost add_gives = { λ a b sum. sum.0 ≡ a.0 + b.0 };
+
+    fn add(self, more: Bytes) -> Bytes {
+        Bytes(self.0 + more.0)
+    }
 }
 
-pub fn larger_bytes(a: Bytes, b: Bytes) -> Bytes
-    ensures { result.0 ≡ max a.0 b.0 }
-{
-    if b.0 < a.0 { a } else { b }
-}
+impl Add for Cycles {
+    type Output = Cycles;
 
-pub fn sum_of_cycles(a: Cycles, b: Cycles) -> Cycles
-    requires { a.0 + b.0 ≤ 18446744073709551615 }
-    ensures { result.0 ≡ a.0 + b.0 }
-{
-    Cycles(a.0 + b.0)
-}
+    ghost can_add = { λ a b. a.0 + b.0 ≤ 18446744073709551615 };
 
-pub fn larger_cycles(a: Cycles, b: Cycles) -> Cycles
-    ensures { result.0 ≡ max a.0 b.0 }
-{
-    if a.0 < b.0 { b } else { a }
+    ghost add_gives = { λ a b sum. sum.0 ≡ a.0 + b.0 };
+
+    fn add(self, more: Cycles) -> Cycles {
+        Cycles(self.0 + more.0)
+    }
 }

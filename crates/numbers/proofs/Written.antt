@@ -1,40 +1,48 @@
 -- Which edition is written: 1 where no function has a check cost, and 2 where one has.
-use Prim.Native.Nat.{ℕ, ◌+◌, ◌*◌, ◌≤◌, ◌<◌, min}
-use mathlib.Core.Path.{◌≡◌, ap, ◌∙◌}
+use Prim.Native.Nat.{ℕ, zero, suc, ◌+◌, ◌*◌, ◌≤◌, ◌<◌, min}
+use mathlib.Core.Path.{◌≡◌, sym, ap, ◌∙◌}
 use mathlib.Core.List.{List}
 use mathlib.Core.Bool.{Bool, true, false, cond}
 use native.Mathlib.Omega.{arith}
+use native.Mathlib.Nat.{zero-add}
 use lib.ListN.{length, get_or, length-take, get_or-eq_default}
 use lib.Seq.{get_or-take}
 use lib.Dec.{ltb}
 use borrow.Author.Tests.{ltb-false, lt-ltb, le-ltb}
+use Rattle.std.specs.List.{list_any, range_with_len}
 use Rattle.model.specs.declared.Function.{Function}
 use Rattle.model.specs.declared.Problem.{Problem}
 use Rattle.model.specs.Zero.{zero_function}
 use Rattle.model.specs.Limits.{first_edition, second_edition}
+use Rattle.model.specs.Search.{lowest_from, exists_below}
 use Rattle.model.specs.Graph.{functions_of}
 use Rattle.model.specs.Costs.{check_cost}
 use Rattle.model.specs.Numbers.{table, function_at, some_check, edition_of, problem_of}
 use Rattle.model.proofs.Cases.{by_bool, by_order}
 use Rattle.model.proofs.Lists.{length-table, get_or-table}
-use Rattle.model.proofs.Search.{Searched, start, miss, exists_hit, exists_none, none_below, exists_nowhere}
+use Rattle.model.proofs.Search.{lowest_alike, none_below, exists_nowhere}
 use Rattle.model.specs.Places as places
 
 -- A function of the list has a check cost above 0.
 abbrev checks : List Function → ℕ → Bool
 checks fs f = ltb 0 (get_or fs f zero_function).check.0
 
--- The functions that numbers say, searched as far as they have places.
+-- A test of some number of a range is the search.
+any_from : (n i : ℕ) (test : ℕ → Bool) → list_any test (range_with_len i n) ≡ ltb (lowest_from n i test) (i + n)
+unfolding lowest_from
+any_from zero i test = sym (le-ltb i (i + 0) (omega arith))
+any_from (suc n) i test =
+    by_bool (test i)
+    (λ e. rw e (sym (lt-ltb i (i + suc n) (omega arith))))
+    (λ e. rw e (any_from n (i + 1) test ∙ ap (ltb (lowest_from n (i + 1) test)) (let f : i + 1 + n ≡ i + suc n = omega arith in f)))
+
+-- The functions that numbers say, of which as many as have places are searched.
 module _ (l : List ℕ) where
   abbrev functions : List Function
   functions = functions_of (problem_of l)
 
   abbrev count : ℕ
   count = get_or l places.function_count 0
-
-  pub record Checking (taken i : ℕ) : Type 0 where
-    pub taken_is : taken ≡ min count places.most_functions
-    pub searched : Searched (length functions) (checks functions) i
 
   long : length functions ≡ min count places.most_functions
   unfolding problem_of
@@ -46,28 +54,16 @@ module _ (l : List ℕ) where
       get_or-take count (table places.most_functions (function_at l)) i zero_function (omega arith)
       ∙ get_or-table places.most_functions (function_at l) i zero_function (omega arith)
 
-  pub checking_start : (taken : ℕ) → taken ≡ min count places.most_functions → Checking taken 0
-  checking_start taken is = record { taken_is = is; searched = start (length functions) (checks functions) }
+  -- Whether the numbers have a check cost above 0 for function i.
+  abbrev pub check_test : ℕ → Bool
+  check_test i = ltb 0 (get_or l (places.check + places.function_width * i) 0)
 
-  module _ {taken i : ℕ} (c : Checking taken i) where
-    module _ (more : i < taken) where
-      same : checks functions i ≡ ltb 0 (get_or l (places.check + places.function_width * i) 0)
-      same = ap (λ (f : Function). ltb 0 f.check.0) (item i (omega (arith, c.taken_is)))
-
-      pub check_found : 0 < get_or l (places.check + places.function_width * i) 0 → true ≡ some_check functions
-      unfolding some_check
-      check_found h = exists_hit c.searched (omega (arith, c.taken_is, long)) (same ∙ lt-ltb 0 _ h)
-
-      pub check_missed : get_or l (places.check + places.function_width * i) 0 ≤ 0 → Checking taken (i + 1)
-      check_missed h = record { taken_is = c.taken_is; searched = miss c.searched (omega (arith, c.taken_is, long)) (same ∙ le-ltb 0 _ h) }
-
-      -- It has a place.
-      pub check_placed : places.check + places.function_width * i < places.end
-      check_placed = omega (arith, c.taken_is)
-
-    pub check_none : taken ≤ i → false ≡ some_check functions
-    unfolding some_check
-    check_none h = exists_none c.searched (omega (arith, c.taken_is, long))
+  pub some_check_told : {taken : ℕ} → taken ≡ min count places.most_functions → list_any check_test (range_with_len 0 taken) ≡ some_check functions
+  unfolding some_check
+  some_check_told {taken} is =
+      any_from taken 0 check_test
+      ∙ (λ j. ltb (lowest_alike taken check_test (checks functions) (λ i h. sym (ap (λ (f : Function). ltb 0 f.check.0) (item i (omega (arith, is))))) j) (zero-add taken j))
+      ∙ ap (λ n. exists_below n (checks functions)) (is ∙ sym long)
 
 edition_by : (t : Bool) → (first_edition ≤ cond t second_edition first_edition) × (cond t second_edition first_edition ≤ second_edition)
 edition_by true = (omega arith, omega arith)

@@ -1,88 +1,33 @@
 // A problem's numbers at fixed places in file order, from its record and from its fields.
 #![tactic(auto)]
 
-ghost use Rattle.std.specs.Prelude.{◌≡◌, ◌∷◌, min, set};
+ghost use Rattle.std.specs.Prelude.{◌≡◌, ◌+◌, ◌*◌, ◌≤◌, ◌∷◌, set};
 ghost use Rattle.model.specs.Places as spot;
 ghost use Rattle.model.specs.Graph.{functions_of};
-ghost use Rattle.model.specs.Numbers.{some_check, edition_of, problem_of, function_numbers, vertex_numbers, edge_numbers, loop_numbers};
+ghost use Rattle.model.specs.Numbers.{some_check, edition_of, problem_of};
 ghost use Rattle.numbers.specs.Numbered.{Numbered, Stored};
 
-use model::{Edge, Function, Loop, Numbers, Problem, Vertex, limits, places};
+use item::Item;
+use model::{Numbers, Problem, limits, places};
 
-// Each list stored at its places, item by item.
-fn put_functions(l: &mut Numbers, functions: [Function; places::MOST_FUNCTIONS])
-    ensures { Stored function_numbers spot.most_functions spot.size functions l.old l.new }
+pub mod item;
+
+// A list stored from its first item's first place on, item by item.
+fn put_items<I: Item, const N: usize>(l: &mut Numbers, first: usize, items: &[I; N])
+    requires { first + I.WIDTH * N ≤ spot.end }
+    ensures { Stored I.numbers N first items.now l.old l.new }
 {
-    let mut i: usize = 0;
-    while i < places::MOST_FUNCTIONS {
-        let f = functions[i];
-        l[places::SIZE + places::FUNCTION_WIDTH * i] = f.size.0;
-        l[places::LOAD + places::FUNCTION_WIDTH * i] = f.load.0;
-        l[places::CHECK + places::FUNCTION_WIDTH * i] = f.check.0;
-        i += 1;
+    for (i, item) in items.iter().enumerate() {
+        item.put(l, first + I::WIDTH * i);
     }
 }
 
-fn put_vertices(l: &mut Numbers, vertices: [Vertex; places::MOST_VERTICES])
-    ensures { Stored vertex_numbers spot.most_vertices spot.function vertices l.old l.new }
-{
-    let mut i: usize = 0;
-    while i < places::MOST_VERTICES {
-        let v = vertices[i];
-        l[places::FUNCTION + places::VERTEX_WIDTH * i] = v.function as u64;
-        l[places::COST + places::VERTEX_WIDTH * i] = v.cost.0;
-        i += 1;
-    }
-}
-
-fn put_edges(l: &mut Numbers, edges: [Edge; places::MOST_EDGES])
-    ensures { Stored edge_numbers spot.most_edges spot.from edges l.old l.new }
-{
-    let mut i: usize = 0;
-    while i < places::MOST_EDGES {
-        let e = edges[i];
-        l[places::FROM + places::EDGE_WIDTH * i] = e.from as u64;
-        l[places::TO + places::EDGE_WIDTH * i] = e.to as u64;
-        i += 1;
-    }
-}
-
-fn put_loops(l: &mut Numbers, loops: [Loop; places::MOST_LOOPS])
-    ensures { Stored loop_numbers spot.most_loops spot.header loops l.old l.new }
-{
-    let mut i: usize = 0;
-    while i < places::MOST_LOOPS {
-        let o = loops[i];
-        l[places::HEADER + places::LOOP_WIDTH * i] = o.header as u64;
-        l[places::LAST + places::LOOP_WIDTH * i] = o.last as u64;
-        l[places::BOUND + places::LOOP_WIDTH * i] = o.bound;
-        i += 1;
-    }
-}
-
-// How many of the functions' places a count takes, however large it is.
-fn places_taken(count: usize) -> usize
-    ensures { result ≡ min count spot.most_functions }
-{
-    if count < places::MOST_FUNCTIONS {
-        return count;
-    }
-    places::MOST_FUNCTIONS
-}
-
-// Whether a function below the count has a check cost above 0.
+// Whether a function below the count, however large that is, has a check cost above 0.
 fn some_check(l: &Numbers) -> bool
     ensures { result ≡ some_check (functions_of (problem_of l.now)) }
 {
-    let taken = places_taken(l[places::FUNCTION_COUNT] as usize);
-    let mut i: usize = 0;
-    while i < taken {
-        if 0 < l[places::CHECK + places::FUNCTION_WIDTH * i] {
-            return true;
-        }
-        i += 1;
-    }
-    false
+    let taken = (l[places::FUNCTION_COUNT] as usize).min(places::MOST_FUNCTIONS);
+    (0..taken).any(|i| 0 < l[places::CHECK + places::FUNCTION_WIDTH * i])
 }
 
 // The edition that is written of a problem's numbers, whichever they have.
@@ -103,24 +48,20 @@ pub fn put_edition(l: &mut Numbers)
     l[places::EDITION] = edition;
 }
 
-// The problem's numbers at their places. An array field's length is known once it is passed by value.
+// The problem's numbers at their places.
 pub fn numbers_of(p: Problem) -> Numbers
     ensures { Numbered p result }
 {
     let mut l = [0u64; places::END];
     l[places::SCRATCHPAD] = p.scratchpad.0;
     l[places::FUNCTION_COUNT] = p.function_count as u64;
-    let functions = p.functions;
-    put_functions(&mut l, functions);
+    put_items(&mut l, places::SIZE, &p.functions);
     l[places::VERTEX_COUNT] = p.vertex_count as u64;
-    let vertices = p.vertices;
-    put_vertices(&mut l, vertices);
+    put_items(&mut l, places::FUNCTION, &p.vertices);
     l[places::EDGE_COUNT] = p.edge_count as u64;
-    let edges = p.edges;
-    put_edges(&mut l, edges);
+    put_items(&mut l, places::FROM, &p.edges);
     l[places::LOOP_COUNT] = p.loop_count as u64;
-    let loops = p.loops;
-    put_loops(&mut l, loops);
+    put_items(&mut l, places::HEADER, &p.loops);
     put_edition(&mut l);
     l
 }
@@ -131,10 +72,8 @@ pub fn with_edition(fields: [u32; places::FIELD_COUNT]) -> Numbers
 {
     let mut numbers = [0u64; places::END];
     numbers[places::EDITION] = 1;
-    let mut i: usize = 0;
-    while i < places::FIELD_COUNT {
-        numbers[i + places::SCRATCHPAD] = fields[i] as u64;
-        i += 1;
+    for (i, field) in fields.iter().enumerate() {
+        numbers[i + places::SCRATCHPAD] = *field as u64;
     }
     numbers
 }

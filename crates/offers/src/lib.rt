@@ -11,7 +11,7 @@ ghost use Rattle.stays.specs.Tables.{cap, Capped};
 ghost use Rattle.offers.specs.Offers.{Ready, comes, offered, best_into, visit_number, entry_number, turn_number};
 
 use chains::{EdgeTable, LoopTable};
-use model::{Cycles, Numbers, places, units};
+use model::{Cycles, Numbers, places};
 use stays::VertexTable;
 
 // Which edges to a vertex count: all, those from outside a range, or those from inside. The numbers are the range's header and last vertex.
@@ -33,6 +33,7 @@ fn counts(origin: Origin, u: usize) -> bool
 }
 
 // What edge i to v brings, with `more` for the visit: nothing if it does not count.
+#[tactic(auto, using(chains::proofs::Checks::checked_bounds))]
 fn offer(
     l: &Numbers,
     loops: &LoopTable,
@@ -59,6 +60,7 @@ fn offer(
 }
 
 // The greatest number that an edge brings to v.
+#[tactic(auto, using(chains::proofs::Checks::checked_bounds))]
 fn best_into(
     l: &Numbers,
     edges: &EdgeTable,
@@ -79,7 +81,7 @@ fn best_into(
     let mut next = edges[v];
     while 0 < next {
         let i = next - 1;
-        best = units::larger_cycles(best, offer(l, loops, d, w, v, more, origin, i));
+        best = best.max(offer(l, loops, d, w, v, more, origin, i));
         next = edges[places::MOST_VERTICES + i];
     }
     best
@@ -109,6 +111,7 @@ pub fn visit_number(
 }
 
 // The number of entering loop i: the greatest weight that the iteration around it, or the walk, has with the entry.
+#[tactic(auto, using(chains::proofs::Checks::checked_bounds))]
 pub fn entry_number(
     l: &Numbers,
     edges: &EdgeTable,
@@ -142,6 +145,7 @@ pub fn entry_number(
 }
 
 // The number of loop i's iteration: the greatest weight from its header until just before the next visit to it.
+#[tactic(auto, using(chains::proofs::Checks::checked_bounds))]
 pub fn turn_number(
     l: &Numbers,
     edges: &EdgeTable,

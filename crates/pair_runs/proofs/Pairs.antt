@@ -1,21 +1,21 @@
 -- A vertex that others of its list follow: the steps of its two numbers come to one turn of a run.
 use Prim.Native.Nat.{ℕ, suc, ◌+◌, ◌-◌, ◌<◌}
+use Rattle.std.specs.Prelude.{Ok}
 use mathlib.Core.Path.{◌≡◌, refl, sym, ap, ◌∙◌}
 use mathlib.Core.List.{List}
 use mathlib.Core.Bool.{Bool, true}
 use native.Mathlib.Omega.{arith}
-use lib.ListN.{length, set, length-set}
+use lib.ListN.{set, length-set}
 use lib.Dec.{eqb}
 use borrow.Author.Tests.{ne_eqb}
 use Rattle.model.specs.declared.Field.{Field}
-use Rattle.model.specs.declared.Number.TheVariants as number
 use Rattle.model.specs.Spelling.{read_number}
 use Rattle.model.specs.Table.{limits, bases, kinds, jumps, counts, kind, first_kind}
-use Rattle.model.specs.File.{next_field, after_item, edition_in, unwritten, below_count, from_header, zero_unwritten, in_range, ascends, item_start, read_from}
+use Rattle.model.specs.File.{number_count, next_field, after_item, edition_in, unwritten, below_count, from_header, zero_unwritten, in_range, ascends, item_start, read_from}
 use Rattle.model.proofs.Cases.{by_cond}
 use Rattle.spelling.proofs.Prefix.{number_ends}
 use Rattle.fields.specs.Valid.{Valid, Placed, field}
-use Rattle.fields.proofs.Steps.{placed, ranged_later}
+use Rattle.fields.proofs.Steps.{placed, next_later, ranged_later}
 use Rattle.fields.proofs.OneField.{read_on}
 use Rattle.fields.proofs.Editions.{plainly_read}
 use Rattle.edge_runs.specs.Edges.{ItemTaken}
@@ -83,7 +83,15 @@ goes_on vertices at start q left = refl
 abbrev pub behind : Field → Field
 behind c = field (c.row + 1) (c.place + 1) c.left
 
+-- There is room for both numbers.
+room : {row q left : ℕ} → Pair row → Valid (field row q left) → q + 1 < number_count
+unfolding next_field kinds
+room vertices v = (placed (next_later v 0 (omega arith) (omega arith)).valid (omega arith)).place
+
 module _ {s : List ℕ} {at : ℕ} {c : Field} {l : List ℕ} (p : AtPair s at c l) where
+  pub pair_fits : c.place + 1 < number_count
+  pair_fits = room p.pair p.item.readable.valid
+
   pub here_placed : Placed c
   here_placed = placed p.item.readable.valid (omega (arith, going p.pair))
 
@@ -98,11 +106,11 @@ module _ {s : List ℕ} {at : ℕ} {c : Field} {l : List ℕ} (p : AtPair s at c
 pub record Found (s : List ℕ) (at : ℕ) (c : Field) (l : List ℕ) : Type 0 where
   pub a : ℕ
   pub middle : ℕ
-  pub first_read : read_number s at ≡ number.Value a middle
+  pub first_read : read_number s at ≡ Ok (a, middle)
   pub first_good : in_range l c a ≡ true
   pub b : ℕ
   pub next : ℕ
-  pub second_read : read_number s middle ≡ number.Value b next
+  pub second_read : read_number s middle ≡ Ok (b, next)
   pub second_good : in_range l (behind c) b ≡ true
 
 module _ {s : List ℕ} {at : ℕ} {c : Field} {l : List ℕ} (p : AtPair s at c l) (f : Found s at c l) where

@@ -8,7 +8,7 @@ ghost use Rattle.edge_runs.specs.Edges.{Readable, PairsRead, AtItem, ItemTaken};
 ghost use Rattle.pair_runs.specs.Pairs.{Item, AtPair};
 
 use fields::Table;
-use model::{Field, Number, Numbers, places, rows};
+use model::{Field, Numbers, places, rows};
 
 // How many items a run has, and the position behind it.
 #[derive(Clone, Copy)]
@@ -21,24 +21,22 @@ pub struct Run {
 fn is_item(row: usize) -> bool
     ensures { result ≡ true → Item row }
 {
-    if row == rows::FUNCTION {
-        return true;
-    }
-    row == rows::FROM
+    row == rows::FUNCTION || row == rows::FROM
 }
 
 // Reads the vertex at a field that others follow, and answers the position behind it; or answers 0 and reads nothing, which is always safe.
+#[tactic(auto, using(edge_runs::proofs::Items::none_taken))]
 fn read_pair(table: &Table, bytes: &[u8], numbers: &mut Numbers, at: usize, field: Field) -> usize
     requires table_value { table.now ≡ entries }
     requires at_pair { AtPair bytes.now at field numbers.old }
     ensures { ItemTaken bytes.now at field numbers.old numbers.new result }
 {
     let first = spelling::read_number(bytes, at);
-    let Number::Value(a, middle) = first else {
+    let Ok((a, middle)) = first else {
         return 0;
     };
     let second = spelling::read_number(bytes, middle);
-    let Number::Value(b, next) = second else {
+    let Ok((b, next)) = second else {
         return 0;
     };
     if !field_rules::in_range(table, numbers, field, a) {
@@ -48,7 +46,7 @@ fn read_pair(table: &Table, bytes: &[u8], numbers: &mut Numbers, at: usize, fiel
     let behind = Field {
         row: field.row + 1,
         place: place + 1,
-        left: field.left,
+        ..field
     };
     if !field_rules::in_range(table, numbers, behind, b) {
         return 0;
@@ -71,34 +69,26 @@ fn read_item(table: &Table, bytes: &[u8], numbers: &mut Numbers, at: usize, fiel
 }
 
 // Reads a run of vertices or of edges from the field on.
+#[tactic(auto, using(edge_runs::proofs::Items::none_read))]
 fn read_items(table: &Table, bytes: &[u8], numbers: &mut Numbers, at: usize, field: Field) -> Run
     requires table_value { table.now ≡ entries }
     requires readable { Readable bytes.now at field numbers.old }
     ensures { PairsRead bytes.now at field numbers.old numbers.new result.items result.at }
 {
-    let mut items: usize = 0;
-    let mut pos = at;
-    let left = field.left;
     if !is_item(field.row) {
-        return Run {
-            items: items,
-            at: pos,
-        };
+        return Run { items: 0, at };
     }
-    while items < left {
+    let mut pos = at;
+    for items in 0..field.left {
         let here = edge_runs::past_pairs(field, items);
         let next = read_item(table, bytes, numbers, pos, here);
         if next == 0 {
-            return Run {
-                items: items,
-                at: pos,
-            };
+            return Run { items, at: pos };
         }
         pos = next;
-        items += 1;
     }
     Run {
-        items: items,
+        items: field.left,
         at: pos,
     }
 }

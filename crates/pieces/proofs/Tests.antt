@@ -1,48 +1,49 @@
--- The tests of a digit's byte, branch by branch.
-use Prim.Native.Nat.{ℕ, ◌+◌, ◌-◌, ◌*◌, ◌/◌, ◌≤◌, ◌<◌}
+-- The tests of a digit's byte.
+use Prim.Native.Nat.{ℕ, ◌+◌, ◌-◌, ◌*◌, ◌/◌}
 use native.Mathlib.Omega.{arith}
-use mathlib.Core.Path.{◌≡◌, refl, sym, ◌∙◌}
-use mathlib.Core.Bool.{Bool, true, false}
+use mathlib.Core.Path.{◌≡◌, sym, ◌∙◌}
+use mathlib.Core.Bool.{Bool, true, false, ◌&&◌}
 use lib.Dec.{leb}
-use borrow.Author.Tests.{lt-leb, le-ltb, le-leb, lt-ltb, leb-true, leb-false}
-use Rattle.grammar.specs.Numerals.{opens, fits}
+use borrow.Author.Tests.{lt-leb, le-leb, lt-ltb, le-ltb}
+use Rattle.model.proofs.Cases.{by_bool, by_order}
+use Rattle.std.specs.Char.{is_ascii_digit}
+use Rattle.grammar.specs.Numerals.{digit, opens, fits}
 
-pub opens_low : (l m c : ℕ) → c < 48 → false ≡ opens l m c
-unfolding opens
-opens_low l m c h = rw (lt-leb 48 c h)
+-- The library's test of a digit's byte is the grammar's.
+same_digit : (c : ℕ) → is_ascii_digit c ≡ digit c
+same_digit c =
+    by_order c 48 (λ h. rw (lt-leb 48 c h))
+    (λ h. by_order c 58 (λ k. rw (le-leb 48 c h, lt-ltb c 58 k, le-leb c 57 (omega arith))) (λ k. rw (le-leb 48 c h, le-ltb c 58 k, lt-leb c 57 (omega arith))))
 
-pub opens_high : (l m c : ℕ) → 48 ≤ c → 57 < c → false ≡ opens l m c
-unfolding opens
-opens_high l m c h k = rw (le-leb 48 c h, le-ltb c 58 (omega arith))
+pub is_digit : {b : Bool} (c : ℕ) → b ≡ is_ascii_digit c → b ≡ true → digit c ≡ true
+is_digit {b} c e t = sym (same_digit c) ∙ sym e ∙ t
 
-pub opens_few : (l m c : ℕ) → 48 ≤ c → c ≤ 57 → c - 48 < l → false ≡ opens l m c
-unfolding opens
-opens_few l m c h k i = rw (le-leb 48 c h, lt-ltb c 58 (omega arith), lt-leb l (c - 48) i)
+pub no_digit : {b : Bool} (c : ℕ) → b ≡ is_ascii_digit c → b ≡ false → digit c ≡ false
+no_digit {b} c e t = sym (same_digit c) ∙ sym e ∙ t
 
-pub opens_last : (l m c : ℕ) → 48 ≤ c → c ≤ 57 → l ≤ c - 48 → leb (c - 48) m ≡ opens l m c
-unfolding opens
-opens_last l m c h k i = rw (le-leb 48 c h, lt-ltb c 58 (omega arith), le-leb l (c - 48) i)
+module _ (l m c : ℕ) where
+  pub opens_none : digit c ≡ false → false ≡ opens l m c
+  unfolding opens
+  opens_none e = rw e
 
-pub fits_low : (v m c : ℕ) → c < 48 → false ≡ fits v m c
-unfolding fits
-fits_low v m c h = rw (lt-leb 48 c h)
+  pub opens_digit : digit c ≡ true → (leb l (c - 48) && leb (c - 48) m) ≡ opens l m c
+  unfolding opens
+  opens_digit e = rw e
 
-pub fits_high : (v m c : ℕ) → 48 ≤ c → 57 < c → false ≡ fits v m c
-unfolding fits
-fits_high v m c h k = rw (le-leb 48 c h, le-ltb c 58 (omega arith))
+module _ (v m c : ℕ) where
+  pub fits_none : digit c ≡ false → false ≡ fits v m c
+  unfolding fits
+  fits_none e = rw e
 
-pub fits_zero : (v m c : ℕ) → 48 ≤ c → c ≤ 57 → v ≡ 0 → false ≡ fits v m c
-unfolding fits
-fits_zero v m c h k e = rw (le-leb 48 c h, lt-ltb c 58 (omega arith), le-ltb 0 v (omega arith))
+  pub fits_zero : v ≡ 0 → false ≡ fits v m c
+  unfolding fits
+  fits_zero e = by_bool (digit c) (λ d. rw (d, e)) (λ d. rw d)
 
-pub fits_past : (v m c : ℕ) → 48 ≤ c → c ≤ 57 → (v ≡ 0 → ⊥) → m < c - 48 → false ≡ fits v m c
-unfolding fits
-fits_past v m c h k n i = rw (le-leb 48 c h, lt-ltb c 58 (omega arith), lt-ltb 0 v (omega (arith, n)), lt-leb (v * 10 + (c - 48)) m (omega arith))
-
-pub fits_last : (v m c : ℕ) → 48 ≤ c → c ≤ 57 → (v ≡ 0 → ⊥) → c - 48 ≤ m → leb v ((m - (c - 48)) / 10) ≡ fits v m c
-unfolding fits
-fits_last v m c h k n i = rw (le-leb 48 c h, lt-ltb c 58 (omega arith), lt-ltb 0 v (omega (arith, n))) (at (leb v ((m - (c - 48)) / 10)) refl)
-  where
-    at : (b : Bool) → leb v ((m - (c - 48)) / 10) ≡ b → leb v ((m - (c - 48)) / 10) ≡ leb (v * 10 + (c - 48)) m
-    at true e = let q = leb-true v ((m - (c - 48)) / 10) e in e ∙ sym (le-leb (v * 10 + (c - 48)) m (omega arith))
-    at false e = let q = leb-false v ((m - (c - 48)) / 10) e in e ∙ sym (lt-leb (v * 10 + (c - 48)) m (omega arith))
+  -- The number with the digit is within the greatest where the number before it is within what the digit leaves.
+  pub fits_digit : digit c ≡ true → (v ≡ 0 → ⊥) → (leb (c - 48) m && leb v ((m - (c - 48)) / 10)) ≡ fits v m c
+  unfolding fits
+  fits_digit e n =
+      rw (e, lt-ltb 0 v (omega (arith, n)))
+      (by_order m (c - 48) (λ h. rw (lt-leb (c - 48) m h, lt-leb (v * 10 + (c - 48)) m (omega arith)))
+      (λ h. by_order ((m - (c - 48)) / 10) v (λ k. rw (le-leb (c - 48) m h, lt-leb v ((m - (c - 48)) / 10) k, lt-leb (v * 10 + (c - 48)) m (omega arith)))
+      (λ k. rw (le-leb (c - 48) m h, le-leb v ((m - (c - 48)) / 10) k, le-leb (v * 10 + (c - 48)) m (omega arith)))))

@@ -1,3 +1,2 @@
-pub mod Lowest
 pub mod Turns
 pub mod Listed

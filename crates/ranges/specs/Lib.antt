@@ -1,3 +1,2 @@
 pub mod Ranges
-pub mod Comparing
 pub mod Marks

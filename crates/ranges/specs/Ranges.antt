@@ -1,13 +1,9 @@
 -- What a list of loops is asked.
-use Rattle.std.specs.Prelude.{ℕ, ◌+◌, ◌≤◌, ◌<◌, List, Bool, cond, ◌||◌, length, ltb}
+use Rattle.std.specs.Prelude.{ℕ, ◌≤◌, ◌<◌, List, Bool, ◌||◌, length}
 use Rattle.model.specs.declared.Loop.{Loop}
 use Rattle.model.specs.Search.{exists_below}
 use Rattle.model.specs.Graph.{loop, holds, crosses}
 use Rattle.model.specs.Places as places
-
--- A search that goes on by one number.
-abbrev pub lowest_up_to : ℕ → ℕ → Bool → ℕ
-lowest_up_to found i passes = cond (ltb found i) found (cond passes i (i + 1))
 
 -- A bad range, where `end` is the last vertex.
 unfoldable pub bad_at : List Loop → ℕ → ℕ → Bool

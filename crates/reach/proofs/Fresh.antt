@@ -1,36 +1,23 @@
--- First reach: each member that a step adds has a walk, and a table that no edge changes holds all that walks show.
+-- First reach: a table that no edge changes holds all that walks show, and no more.
 use Prim.Native.Nat.{ℕ, zero, suc, ◌<◌}
 use mathlib.Core.Path.{◌≡◌, ◌∙◌}
 use mathlib.Core.List.{List}
-use mathlib.Core.Bool.{Bool, false}
-use mathlib.Core.Logic.{◌↔◌}
 use native.Mathlib.Omega.{arith}
-use lib.ListN.{get_or, set, replicate, length-replicate, length-set}
+use lib.ListN.{set, replicate, length-replicate, length-set}
 use Rattle.model.specs.declared.Edge.{Edge}
 use Rattle.model.specs.declared.Problem.{Problem}
-use Rattle.model.specs.Numbers.{problem_of}
 use Rattle.model.specs.Costs.{function_of}
 use Rattle.model.specs.Walks.{EdgeOf}
 use Rattle.model.specs.Results.{Member}
-use Rattle.sound.proofs.Flow.{fresh_start, fresh_further, fresh_complete}
+use Rattle.sound.proofs.Flow.{fresh_start, fresh_complete}
 use Rattle.bits.specs.Words.{Has, Sound}
 use Rattle.bits.proofs.Steps.{none_in_cleared}
-use Rattle.flow.specs.Rounds.{Closed, Underway}
-use Rattle.flow.specs.Starts.{from, to}
-use Rattle.flow.proofs.Edges.{is_edge, by_number}
-use Rattle.flow.proofs.Visits.{Laws, Visiting, begun}
+use Rattle.flow.specs.Rounds.{Closed}
+use Rattle.flow.proofs.Edges.{by_number}
 use Rattle.reach.specs.Fresh.{FreshGains, IsFresh, fresh_flow, FreshTable}
 use Rattle.model.specs.Places as places
 
 module _ (p : Problem) where
-  pub fresh_laws : Laws (fresh_flow p)
-  fresh_laws = record {
-    apart = λ x v f h lt lt' e. e;
-    local = λ ws after u row f b lt (ne, h). (ne, row f b lt h);
-    good = λ ws sound i here f b lt (ne, h).
-        fresh_further (function_of p) (EdgeOf p) (from p i) (to p i) b (sound (from p i) b h) (is_edge p i here) ne;
-  }
-
   pub fresh_begun : (all : ℕ) → Sound (IsFresh p) (set (replicate places.most_vertices 0) 0 all)
   fresh_begun all zero b h = fresh_start (function_of p) (EdgeOf p) b
   fresh_begun all (suc k) b h = absurd (none_in_cleared places.most_vertices (suc k) b h)
@@ -49,9 +36,3 @@ module _ (p : Problem) where
       settled f u v e ne m =
           by_number p (λ (x : Edge). (b : ℕ) → FreshGains after x.from (function_of p x.from) b → Has after x.to b)
           (λ i here b gain. closed.passed i here 0 b (omega arith) gain) u v e f (ne, m)
-
--- A visit to u, of function g, whose edges bring the members of `add`.
-pub fresh_visit : {l begins : List ℕ} {u : ℕ} {marks : List Bool} {ws : List ℕ} → Underway l (fresh_flow (problem_of l)) begins marks ws →
-    u < (problem_of l).vertex_count → (g add : ℕ) → g ≡ function_of (problem_of l) u → ((b : ℕ) → Member add b ↔ FreshGains ws u g b) →
-    Visiting l (fresh_flow (problem_of l)) begins (λ f b. Member add b) u (get_or begins u 0) (set marks u false) ws (set marks u false) ws false
-fresh_visit {l} underway there g add is_g members = begun underway there (fresh_laws (problem_of l)) (λ f b lt. (rw is_g at members) b)

@@ -1,68 +1,36 @@
 // First reach, by data flow over the edges until nothing changes: with which functions not yet visited a walk may arrive at each vertex.
 #![tactic(auto)]
 
-ghost use Rattle.std.specs.Prelude.{◌≡◌, ◌<◌, length};
+ghost use Rattle.std.specs.Prelude.{◌≡◌};
 ghost use Rattle.model.specs.Numbers.{problem_of};
 ghost use Rattle.model.specs.Operations.{Checked};
-ghost use Rattle.bits.specs.Words.{Sound};
+ghost use Rattle.model.specs.Results.{Member};
 ghost use Rattle.flow.specs.Starts.{Starts};
-ghost use Rattle.flow.specs.Rounds.{Underway, Visited, Swept, Closed};
-ghost use Rattle.reach.specs.Fresh.{IsFresh, fresh_flow, FreshTable};
-ghost use Rattle.model.specs.Places as places;
+ghost use Rattle.reach.specs.Fresh.{fresh_flow, FreshTable};
+ghost use Rattle.reach.specs.Laws.{fresh_laws};
 
-use flow::{Begins, Marks};
+use flow::{Begins, Flow};
 use model::{Numbers, places};
 
-// If u is marked, what its word has but its function goes on over its edges, and the ends that gain are marked. Whether any did.
-fn visit_fresh(l: &Numbers, starts: &Begins, u: usize, fresh: &mut [u32], marks: &mut Marks) -> bool
-    requires fact_1 { Underway l.now (fresh_flow (problem_of l.now)) starts.now marks.old fresh.old }
-    requires fact_2 { u < (problem_of l.now).vertex_count }
-    ensures { Visited (fresh_flow (problem_of l.now)) u marks.old fresh.old marks.new fresh.new result }
-{
-    if !marks[u] {
-        return false;
-    }
-    marks[u] = false;
-    let add = bits::without(fresh[u], lookup::function_of(l, u));
-    let last = starts[u + 1];
-    let mut changed = false;
-    let mut i = starts[u];
-    while i < last {
-        let v = lookup::edge_to(l, i);
-        let gained = bits::gain(fresh, v, add);
-        marks[v] |= gained;
-        changed |= gained;
-        i += 1;
-    }
-    changed
-}
+// First reach as a flow: what a vertex's word has but its function goes on.
+struct FirstReach;
 
-fn sweep_fresh(l: &Numbers, starts: &Begins, fresh: &mut [u32], marks: &mut Marks) -> bool
-    requires { Underway l.now (fresh_flow (problem_of l.now)) starts.now marks.old fresh.old }
-    ensures { Swept (fresh_flow (problem_of l.now)) fresh.old marks.new fresh.new result }
-{
-    let count = lookup::vertex_count(l);
-    let mut changed = false;
-    let mut u: usize = 0;
-    while u < count {
-        changed |= visit_fresh(l, starts, u, fresh, marks);
-        u += 1;
-    }
-    changed
-}
+impl Flow for FirstReach {
+    type Brought = u32;
 
-fn close_fresh(l: &Numbers, begins: &Begins, fresh: &mut [u32])
-    requires checked_1 { Checked l.now }
-    requires checked_2 { Starts (problem_of l.now) begins.now }
-    requires fresh_len_1 { length fresh.old ≡ places.most_vertices }
-    requires fresh_len_2 { Sound (IsFresh (problem_of l.now)) fresh.old }
-    ensures { Closed (fresh_flow (problem_of l.now)) fresh.old fresh.new }
-{
-    let mut marks = [true; places::MOST_VERTICES];
-    let mut changed = true;
-    while changed {
-        changed = sweep_fresh(l, begins, fresh, &mut marks);
+    ghost flow = { λ s p. fresh_flow p };
+
+    ghost member = { λ add f b. Member add b };
+
+    fn leaving(&self, l: &Numbers, u: usize, fresh: &[u32]) -> u32 {
+        bits::without(fresh[u], lookup::function_of(l, u))
     }
+
+    fn gain(&self, _l: &Numbers, add: &u32, v: usize, fresh: &mut [u32]) -> bool {
+        bits::gain(fresh, v, *add)
+    }
+
+    ghost laws = { λ s l ok. fresh_laws (problem_of l) };
 }
 
 // First reach: for each vertex the functions f such that some walk arrives there with no earlier vertex of f.
@@ -73,5 +41,5 @@ pub fn first_reach(l: &Numbers, begins: &Begins, fresh: &mut [u32; places::MOST_
 {
     *fresh = [0u32; places::MOST_VERTICES];
     fresh[0] = bits::below(lookup::function_count(l));
-    close_fresh(l, begins, fresh);
+    flow::close(&FirstReach, l, begins, fresh);
 }

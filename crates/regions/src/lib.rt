@@ -9,7 +9,7 @@ ghost use Rattle.model.specs.Layouts.{region_of, need_of};
 ghost use Rattle.regions.specs.Regions.{ListsAll};
 ghost use Rattle.regions.specs.Sizes.{Enlarged, LargestSizes};
 
-use model::{Bytes, Numbers, limits, units};
+use model::{Bytes, Numbers, limits};
 
 // A size a region.
 type Sizes = [u64; limits::MOST_REGIONS];
@@ -27,8 +27,7 @@ fn enlarge(sizes: &mut Sizes, region: usize, size: Bytes)
     ensures { Enlarged sizes.old region size.0 sizes.new }
 {
     if region < limits::MOST_REGIONS {
-        let most = units::larger_bytes(Bytes(sizes[region]), size);
-        sizes[region] = most.0;
+        sizes[region] = sizes[region].max(size.0);
     }
 }
 
@@ -40,10 +39,8 @@ fn largest_sizes(l: &Numbers, layout: &[u8], sizes: &mut Sizes)
 {
     *sizes = [0u64; limits::MOST_REGIONS];
     let count = lookup::function_count(l);
-    let mut f: usize = 0;
-    while f < count {
+    for f in 0..count {
         enlarge(sizes, region_of(layout, f), lookup::size_of(l, f));
-        f += 1;
     }
 }
 
@@ -56,10 +53,8 @@ pub fn need(l: &Numbers, layout: &[u8]) -> Bytes
     let mut sizes = [0u64; limits::MOST_REGIONS];
     largest_sizes(l, layout, &mut sizes);
     let mut needed = Bytes(0);
-    let mut region: usize = 0;
-    while region < limits::MOST_REGIONS {
-        needed = units::sum_of_bytes(needed, Bytes(sizes[region]));
-        region += 1;
+    for size in sizes {
+        needed = needed + Bytes(size);
     }
     needed
 }

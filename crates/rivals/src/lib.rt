@@ -11,6 +11,7 @@ ghost use Rattle.model.specs.Places as places;
 use model::{Numbers, limits, places};
 
 // The functions of each region.
+#[tactic(auto, using(lookup::proofs::Places::facts, lookup::proofs::Places::few_functions))]
 fn members_of(l: &Numbers, layout: &[u8], members: &mut [u32; limits::MOST_REGIONS])
     requires fact_1 { Checked l.now }
     requires fact_2 { KnownRegions (problem_of l.now) layout.now }
@@ -18,15 +19,14 @@ fn members_of(l: &Numbers, layout: &[u8], members: &mut [u32; limits::MOST_REGIO
 {
     *members = [0u32; limits::MOST_REGIONS];
     let count = lookup::function_count(l);
-    let mut f: usize = 0;
-    while f < count {
+    for f in 0..count {
         let region = regions::region_of(layout, f);
-        members[region] = members[region] | (1u32 << f);
-        f += 1;
+        members[region] |= 1u32 << f;
     }
 }
 
 // For each function the others of its region.
+#[tactic(auto, using(lookup::proofs::Places::facts, lookup::proofs::Places::few_functions))]
 pub fn fill_rivals(l: &Numbers, layout: &[u8], rivals: &mut [u32; places::MOST_FUNCTIONS])
     requires fact_1 { Checked l.now }
     requires fact_2 { KnownRegions (problem_of l.now) layout.now }
@@ -36,10 +36,8 @@ pub fn fill_rivals(l: &Numbers, layout: &[u8], rivals: &mut [u32; places::MOST_F
     let mut members = [0u32; limits::MOST_REGIONS];
     members_of(l, layout, &mut members);
     let count = lookup::function_count(l);
-    let mut f: usize = 0;
-    while f < count {
+    for f in 0..count {
         let region = regions::region_of(layout, f);
         rivals[f] = bits::without(members[region], f);
-        f += 1;
     }
 }

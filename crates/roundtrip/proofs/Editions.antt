@@ -1,13 +1,13 @@
 -- The edition is no part of the problem: a problem's numbers in two editions differ in their first alone. They pass the checks in each edition that can say the
 -- problem, and clearing their spare places leaves one problem.
 use Prim.Native.Nat.{ℕ, zero, suc, ◌+◌, ◌*◌, ◌≤◌, ◌<◌}
+use Rattle.std.specs.Prelude.{Ok}
 use mathlib.Core.Path.{◌≡◌, refl, sym, ap, subst, ◌∙◌}
 use mathlib.Core.List.{List}
 use mathlib.Core.Bool.{Bool, cond}
 use native.Mathlib.Omega.{arith}
 use lib.ListN.{length, get_or, take, get_or-eq_default}
 use lib.Seq.{get_or-take, ext_get_or}
-use Rattle.model.specs.declared.FieldsAnswer.TheVariants.{Done}
 use Rattle.model.specs.declared.Function.{Function}
 use Rattle.model.specs.declared.Problem.{Problem}
 use Rattle.model.specs.Zero.{zero_function}
@@ -114,7 +114,7 @@ module _ (l : List ℕ) (ok : FieldFacts l) where
       by_same (edition_in l) first_edition (λ one. omega (arith, unchecked_first (problem_of l) (no_check one))) (λ other. omega (arith, ok.edition_low))
 
 -- So their problem passes the checks of writing, in the edition that is written of it.
-pub settled : (l : List ℕ) → length l ≡ places.end → FieldFacts l → (need : ℕ) × (check_fields (numbers_of (problem_of l)) ≡ Done need)
+pub settled : (l : List ℕ) → length l ≡ places.end → FieldFacts l → (need : ℕ) × (check_fields (numbers_of (problem_of l)) ≡ Ok need)
 settled l long ok =
     let p : Problem = problem_of l in
     let own : numbers_in (edition_in l) p ≡ l = numbers_of_problem l long in

@@ -1,18 +1,18 @@
 -- What an accepted file's edition tells, and which edition comes back.
 use Prim.Native.Nat.{ℕ, zero, suc, ◌+◌, ◌≤◌, ◌<◌}
+use Rattle.std.specs.Prelude.{Ok}
 use mathlib.Core.Path.{◌≡◌, refl, sym, ◌∙◌}
 use mathlib.Core.List.{List, [], ◌∷◌}
 use native.Mathlib.Omega.{arith}
 use lib.ListN.{length, get_or}
-use Rattle.model.specs.declared.Number.TheVariants.{Value}
 use Rattle.model.specs.declared.Problem.{Problem}
-use Rattle.model.specs.declared.ReadAnswer.TheVariants as read
 use Rattle.model.specs.Limits.{first_edition, second_edition}
 use Rattle.model.specs.Spelling.{Bytes, read_number, number_size, groups, number_bytes}
 use Rattle.model.specs.Costs.{check_cost}
 use Rattle.model.specs.Numbers.{edition_of, numbers_in, numbers_of}
 use Rattle.model.specs.File.{number_count, first_field, edition_in, unwritten, bytes_from}
 use Rattle.model.specs.Operations.{read_file}
+use Rattle.model.proofs.Answers.{ok_pair}
 use Rattle.model.proofs.Cases.{by_same, true_not_false}
 use Rattle.spelling.proofs.RoundTrip.{read_padded}
 use Rattle.numbers.proofs.Written.{edition_limits, first_unchecked, unchecked_first}
@@ -23,7 +23,7 @@ use Rattle.roundtrip.proofs.Editions.{own_edition}
 use Rattle.roundtrip.proofs.Trip.{accepted, edition_saved}
 
 -- A file begins with its edition.
-begins_with : (l s : List ℕ) (n : ℕ) → 0 < n → edition_in l ≤ second_edition → Padded l n first_field s → (next : ℕ) × (read_number s 0 ≡ Value (edition_in l) next)
+begins_with : (l s : List ℕ) (n : ℕ) → 0 < n → edition_in l ≤ second_edition → Padded l n first_field s → (next : ℕ) × (read_number s 0 ≡ Ok ((edition_in l), next))
 unfolding unwritten
 begins_with l s zero some known padded = absurd (omega arith)
 begins_with l s (suc n) some known (Padded.over e) = true_not_false (sym e)
@@ -31,12 +31,11 @@ begins_with l s (suc n) some known (Padded.skip e t more) = true_not_false (sym 
 begins_with l s (suc n) some known (Padded.on {rest = rest} k e t enough few more) = (0 + k, read_padded [] rest (edition_in l) k (omega arith) enough few)
 
 module _ (p : Problem) (s : List ℕ) (file : FileOf p s) where
-  pub file_begins : (edition next : ℕ) → read_number s 0 ≡ Value edition next → file.edition ≡ edition
+  pub file_begins : (edition next : ℕ) → read_number s 0 ≡ Ok (edition, next) → file.edition ≡ edition
   file_begins edition next e =
       let own = own_edition file.edition p in
       let begins = begins_with (numbers_in file.edition p) s number_count (omega arith) (omega (arith, file.known)) file.padded in
-      let q : Value (edition_in (numbers_in file.edition p)) begins.0 ≡ Value edition next = sym begins.1 ∙ e in
-      let same : edition_in (numbers_in file.edition p) ≡ edition = cc in
+      let same : edition_in (numbers_in file.edition p) ≡ edition = (ok_pair (sym begins.1 ∙ e)).0 in
       omega arith
 
 -- The first byte that is written is the edition.
@@ -61,15 +60,15 @@ first_byte p =
     byte_from (numbers_of p) number_count (omega arith) (omega arith) (omega arith) ∙ own
 
 -- A file s that Read accepts as p, where it begins with its edition.
-module _ (s : List ℕ) (byte : Bytes s) (p : Problem) (is_read : read_file s ≡ read.Accepted p) (next : ℕ) where
+module _ (s : List ℕ) (byte : Bytes s) (p : Problem) (is_read : read_file s ≡ Ok p) (next : ℕ) where
   -- A file of edition 1 has no check cost.
-  pub first_edition_read : read_number s 0 ≡ Value first_edition next → (f : ℕ) → check_cost p f ≡ 0
+  pub first_edition_read : read_number s 0 ≡ Ok (first_edition, next) → (f : ℕ) → check_cost p f ≡ 0
   first_edition_read e =
       let file = (accepted s byte p is_read).file in
       first_unchecked p (omega (arith, file_begins p s file first_edition next e, file.enough, edition_limits p))
 
   -- A file of edition 2 without a check cost comes back as one of edition 1, shorter by a byte a function at least.
-  pub second_edition_read : read_number s 0 ≡ Value second_edition next → ((f : ℕ) → check_cost p f ≡ 0) →
+  pub second_edition_read : read_number s 0 ≡ Ok (second_edition, next) → ((f : ℕ) → check_cost p f ≡ 0) →
       (get_or (short_file p) 0 0 ≡ first_edition) × (length (short_file p) + p.function_count ≤ length s)
   second_edition_read e none =
       let ok = accepted s byte p is_read in

@@ -1,5 +1,9 @@
 -- Reading looks at no byte past the longest file's.
 use Prim.Native.Nat.{ℕ, zero, suc, ◌+◌, ◌*◌, ◌≤◌, ◌<◌}
+use Rattle.std.specs.Prelude.{Err, Ok, Result}
+use Rattle.model.specs.declared.Refusal.{Refusal}
+use Rattle.model.specs.declared.Misread.{Misread}
+use Rattle.model.specs.declared.Misread.TheVariants.{Ended, Misspelt}
 use mathlib.Core.Path.{◌≡◌, refl, ap}
 use mathlib.Core.List.{List}
 use mathlib.Core.Bool.{false}
@@ -8,11 +12,7 @@ use lib.Dec.{leb}
 use lib.ListN.{length, take, set, replicate}
 use lib.Seq.{length-take-le, take_all}
 use borrow.Author.Tests.{lt-ltb, leb-true, leb-false}
-use Rattle.model.specs.declared.Number.{Number}
-use Rattle.model.specs.declared.Number.TheVariants.{Value, Ended, Misspelt}
 use Rattle.model.specs.declared.Field.{Field}
-use Rattle.model.specs.declared.FieldsAnswer.{FieldsAnswer}
-use Rattle.model.specs.declared.FieldsAnswer.TheVariants.{Done, Refused}
 use Rattle.model.specs.File.{number_count, read_length, first_field, at_end, next_field, edition_in, read_field, item_start, Scan, scanned, read_from}
 use Rattle.model.specs.Operations.{read_rest, read_file}
 use Rattle.model.proofs.Cases.{by_bool}
@@ -30,12 +30,12 @@ module _ (s : List ℕ) (k : ℕ) (cut : k ≤ length s) where
   Same n at start c l = read_from n (take k s) at start c l ≡ read_from n s at start c l
 
   number_same : (n at start : ℕ) (c : Field) (l : List ℕ) → at + 5 ≤ k → at_end c ≡ false →
-      ((v next : ℕ) → read_field (edition_in l) s at c ≡ Value v next → Same n next (item_start c at start) (next_field c v) (set l c.place v)) →
-      (r : Number) → read_field (edition_in l) s at c ≡ r → Same (suc n) at start c l
+      ((v next : ℕ) → read_field (edition_in l) s at c ≡ Ok (v, next) → Same n next (item_start c at start) (next_field c v) (set l c.place v)) →
+      (r : Result (ℕ × ℕ) Misread) → read_field (edition_in l) s at c ≡ r → Same (suc n) at start c l
   unfolding read_from
-  number_same n at start c l room e more (Value v next) q = simp (e, field_prefix (edition_in l) c s k at room cut, q, more v next q)
-  number_same n at start c l room e more Ended q = absurd (field_never_ended (edition_in l) c s at (omega arith) q)
-  number_same n at start c l room e more Misspelt q = simp (e, field_prefix (edition_in l) c s k at room cut, q)
+  number_same n at start c l room e more (Ok (v, next)) q = simp (e, field_prefix (edition_in l) c s k at room cut, q, more v next q)
+  number_same n at start c l room e more (Err Ended) q = absurd (field_never_ended (edition_in l) c s at (omega arith) q)
+  number_same n at start c l room e more (Err Misspelt) q = simp (e, field_prefix (edition_in l) c s k at room cut, q)
 
   scan_prefix : (n at start : ℕ) (c : Field) (l : List ℕ) → at + 5 * n < k → Same n at start c l
   unfolding read_from
@@ -47,11 +47,11 @@ module _ (s : List ℕ) (k : ℕ) (cut : k ≤ length s) where
       (read_field (edition_in l) s at c) refl)
 
   -- Where reading is done before k, bytes are left over in both.
-  rest_same : (a : FieldsAnswer) (l : List ℕ) → ((at : ℕ) → a ≡ Done at → at < k) → read_rest k a l ≡ read_rest (length s) a l
-  rest_same (Done at) l below =
+  rest_same : (a : Result ℕ Refusal) (l : List ℕ) → ((at : ℕ) → a ≡ Ok at → at < k) → read_rest k a l ≡ read_rest (length s) a l
+  rest_same (Ok at) l below =
       let h : at < k = below at refl in
       simp (lt-ltb at k h, lt-ltb at (length s) (omega arith))
-  rest_same (Refused f) l below = refl
+  rest_same (Err f) l below = refl
 
   fields_same : (n : ℕ) (z : List ℕ) → 5 * n < k →
       read_rest (length (take k s)) (read_from n (take k s) 0 0 first_field z).answer (read_from n (take k s) 0 0 first_field z).numbers
@@ -60,7 +60,7 @@ module _ (s : List ℕ) (k : ℕ) (cut : k ≤ length s) where
       let x : Scan = read_from n s 0 0 first_field z in
       rw (scan_prefix n 0 0 first_field z (omega arith), length-take-le k s cut)
       (rest_same x.answer x.numbers
-      (λ at q. let e : x ≡ scanned (Done at) x.numbers = ap (λ (a : FieldsAnswer). scanned a x.numbers) q in
+      (λ at q. let e : x ≡ scanned (Ok at) x.numbers = ap (λ (a : Result ℕ Refusal). scanned a x.numbers) q in
       omega (arith, reads_near (reads s at x.numbers n 0 0 first_field z e))))
 
 -- A file cut off after the bytes that reading may look at is read alike.

@@ -1,13 +1,13 @@
 -- A file that was read with nothing left over is a file of its numbers, padded or not, and its numbers pass the checks of writing. That they are good is known
 -- without the bytes.
 use Prim.Native.Nat.{ℕ, suc, ◌+◌, ◌≤◌}
+use Rattle.std.specs.Prelude.{Ok}
 use mathlib.Core.Path.{◌≡◌, refl, sym, ap, subst, ◌∙◌}
 use mathlib.Core.List.{List, [], ◌++◌, append_assoc, append-nil}
 use mathlib.Core.Bool.{true, false}
 use native.Mathlib.Omega.{arith}
 use lib.ListN.{length, get_or, drop, replicate, length-set, length-replicate, drop_of_length-le}
 use Rattle.model.specs.declared.Field.{Field}
-use Rattle.model.specs.declared.FieldsAnswer.TheVariants.{Done}
 use Rattle.model.specs.Spelling.{Bytes, groups}
 use Rattle.model.specs.File.{number_count, first_field, at_end, next_field, edition_in, unwritten, scanned, read_from, check_from, bytes_from, read_fields}
 use Rattle.model.proofs.Cases.{by_bool}
@@ -58,19 +58,19 @@ module _ (s : List ℕ) (byte : Bytes s) where
 pub record FileRead (n : ℕ) (z s l : List ℕ) : Type 0 where
   pub into : ReadInto n first_field z l
   pub padded : Padded l n first_field s
-  pub checked : check_from n 0 0 first_field l ≡ Done (length (bytes_from n first_field l))
+  pub checked : check_from n 0 0 first_field l ≡ Ok (length (bytes_from n first_field l))
 
 whole : (n : ℕ) (z s l : List ℕ) (end : ℕ) → Bytes s → length z ≡ number_count → length s ≤ end →
-    read_from n s 0 0 first_field z ≡ scanned (Done end) l → FileRead n z s l
+    read_from n s 0 0 first_field z ≡ scanned (Ok end) l → FileRead n z s l
 whole n z s l end byte size none_left e =
     let r : Back s n 0 first_field end l = back s byte Valid.edition size (reads s end l n 0 0 first_field z e) in
     let none : drop end s ≡ [] = drop_of_length-le s {i = end} none_left in
     let is : s ≡ r.file = r.bytes ∙ ap (λ (t : List ℕ). r.file ++ t) none ∙ append-nil r.file in
     let into : ReadInto n first_field z l = read_into s n 0 0 first_field z end l Valid.edition size e in
     let ends : 0 + length (bytes_from n first_field l) ≡ length (bytes_from n first_field l) = omega arith in
-    record { into = into; padded = subst (λ (t : List ℕ). Padded l n first_field t) (sym is) r.padded; checked = good_ends into.good 0 0 ∙ ap Done ends }
+    record { into = into; padded = subst (λ (t : List ℕ). Padded l n first_field t) (sym is) r.padded; checked = good_ends into.good 0 0 ∙ ap Ok ends }
 
-pub fields_file : (s l : List ℕ) (end : ℕ) → Bytes s → length s ≤ end → read_fields s ≡ scanned (Done end) l →
+pub fields_file : (s l : List ℕ) (end : ℕ) → Bytes s → length s ≤ end → read_fields s ≡ scanned (Ok end) l →
     FileRead number_count (replicate number_count 0) s l
 fields_file s l end byte none_left e =
     whole number_count (replicate number_count 0) s l end byte (length-replicate {A = ℕ} number_count 0) none_left e

@@ -1,12 +1,12 @@
 -- Clearing the spare places of checked numbers leaves the same problem, with the same verdict on its graph.
 use Prim.Native.Nat.{ℕ, ◌+◌, ◌*◌, ◌≤◌, ◌<◌}
+use Rattle.std.specs.Prelude.{Ok}
 use mathlib.Core.Path.{◌≡◌, sym, ap, subst, ◌∙◌}
 use mathlib.Core.List.{List}
 use mathlib.Core.Bool.{true}
 use native.Mathlib.Omega.{arith}
 use lib.ListN.{get_or, take}
 use lib.Seq.{ext_get_or}
-use Rattle.model.specs.declared.FieldsAnswer.TheVariants.{Done}
 use Rattle.model.specs.declared.Problem.{Problem}
 use Rattle.model.specs.Zero.{bytes, cycles}
 use Rattle.model.specs.Table.{bases, base}
@@ -93,7 +93,7 @@ module _ (l m : List ℕ) (facts : FieldFacts l) (kept : (k : ℕ) → in_use l 
             });
       }
 
-pub same_checked : (p : Problem) → Sized p → (need : ℕ) → check_fields (numbers_of p) ≡ Done need → SameProblem p (cleared_problem p)
+pub same_checked : (p : Problem) → Sized p → (need : ℕ) → check_fields (numbers_of p) ≡ Ok need → SameProblem p (cleared_problem p)
 same_checked p sized need ok =
     let l : List ℕ = numbers_of p in
     subst (λ (q : Problem). SameProblem q (problem_of (cleared l))) (problem_of_numbers (edition_of p) p sized)

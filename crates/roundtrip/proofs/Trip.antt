@@ -1,20 +1,16 @@
 -- Read and Write undo each other, but for padding and edition: the files that are read as a problem are its files, padded or not, and what is written is the
 -- shortest of them. A lawful problem, written, is read as itself.
 use Prim.Native.Nat.{ℕ, ◌+◌, ◌≤◌, ◌<◌}
+use Rattle.std.specs.Prelude.{Ok, Result}
+use Rattle.model.specs.Refusals.{Verdict}
+use Rattle.model.specs.declared.Refusal.{Refusal}
 use mathlib.Core.Path.{◌≡◌, sym, ap, subst, ◌∙◌}
 use mathlib.Core.List.{List, ◌++◌}
 use native.Mathlib.Omega.{arith}
 use lib.ListN.{length, take, drop, replicate}
 use lib.Seq.{sets, sets-eq, take_at}
 use borrow.Author.Tests.{le-ltb}
-use Rattle.model.specs.declared.FieldsAnswer.{FieldsAnswer}
-use Rattle.model.specs.declared.FieldsAnswer.TheVariants.{Done}
-use Rattle.model.specs.declared.Verdict.{Verdict}
-use Rattle.model.specs.declared.Verdict.TheVariants.{Accepted}
 use Rattle.model.specs.declared.Problem.{Problem}
-use Rattle.model.specs.declared.ReadAnswer.TheVariants as read
-use Rattle.model.specs.declared.WriteAnswer.{WriteAnswer}
-use Rattle.model.specs.declared.WriteAnswer.TheVariants.{Written}
 use Rattle.model.specs.Spelling.{Bytes}
 use Rattle.model.specs.Limits.{first_edition, second_edition}
 use Rattle.model.specs.Numbers.{edition_of, numbers_in, numbers_of, problem_of, Sized}
@@ -42,21 +38,21 @@ use Rattle.roundtrip.proofs.Same.{same_judged, same_checked}
 use Rattle.roundtrip.proofs.Answers.{Whole, whole, GoodProblem, good_problem, is_checked, Roomy, has_room}
 
 -- Writing a lawful problem where there is room for it.
-writes : (p : Problem) (room need : ℕ) → check_problem p ≡ Done need → need ≤ room → write_problem p room ≡ Written need
+writes : (p : Problem) (room need : ℕ) → check_problem p ≡ Ok need → need ≤ room → write_problem p room ≡ Ok need
 unfolding write_problem
-writes p room need checked enough = ap (λ (f : FieldsAnswer). write_checked f room) checked ∙ simp (le-ltb room need enough)
+writes p room need checked enough = ap (λ (f : Result ℕ Refusal). write_checked f room) checked ∙ simp (le-ltb room need enough)
 
 -- What was written stands at the front of the buffer.
-stored : (p : Problem) (buf : List ℕ) (n : ℕ) → write_problem p (length buf) ≡ Written n → n ≤ length buf → n ≡ length (short_file p) →
+stored : (p : Problem) (buf : List ℕ) (n : ℕ) → write_problem p (length buf) ≡ Ok n → n ≤ length buf → n ≡ length (short_file p) →
     written_buffer p buf ≡ short_file p ++ drop n buf
 stored p buf n e room long =
     let end : 0 + length (short_file p) ≡ n = omega arith in
-    ap (λ (a : WriteAnswer). after_write a p buf) e
+    ap (λ (a : Result ℕ Refusal). after_write a p buf) e
     ∙ sets-eq (short_file p) buf 0 (omega arith)
     ∙ ap (λ (k : ℕ). short_file p ++ drop k buf) end
 
 -- A lawful problem p, whose shortest file has `need` bytes.
-module _ (p : Problem) (need : ℕ) (checked : check_problem p ≡ Done need) where
+module _ (p : Problem) (need : ℕ) (checked : check_problem p ≡ Ok need) where
   lawful : GoodProblem p need
   lawful = good_problem p need checked
 
@@ -66,12 +62,12 @@ module _ (p : Problem) (need : ℕ) (checked : check_problem p ≡ Done need) wh
 short_is : (p : Problem) → FileOf p (short_file p)
 short_is p = record { edition = edition_of p; enough = omega arith; known = (edition_limits p).1; padded = unpadded (numbers_of p) number_count first_field }
 
-module _ (p : Problem) (sized : Sized p) (need : ℕ) (checked : check_problem p ≡ Done need) where
+module _ (p : Problem) (sized : Sized p) (need : ℕ) (checked : check_problem p ≡ Ok need) where
   -- Clearing its spare places leaves a lawful problem the same.
   pub same_cleared : SameProblem p (cleared_problem p)
   same_cleared = same_checked p sized need (lawful p need checked).fields
 
-  graph_cleared : judge_graph (cleared_problem p) ≡ Accepted
+  graph_cleared : judge_graph (cleared_problem p) ≡ Ok tt
   graph_cleared = sym (same_judged same_cleared) ∙ (lawful p need checked).graph
 
   own_facts : FieldFacts (numbers_of p)
@@ -85,7 +81,7 @@ module _ (p : Problem) (sized : Sized p) (need : ℕ) (checked : check_problem p
         checked_good (numbers_in file.edition p) done.0 done.1
 
     -- Every file of a lawful problem is read as the problem, with every spare place zero.
-    pub padded_read : read_file s ≡ read.Accepted (cleared_problem p)
+    pub padded_read : read_file s ≡ Ok (cleared_problem p)
     unfolding read_file
     padded_read =
         ap (λ (x : Scan). read_rest (length s) x.answer x.numbers) (fields_back (numbers_in file.edition p) s good_numbers file.padded)
@@ -114,22 +110,22 @@ module _ (p : Problem) (sized : Sized p) (need : ℕ) (checked : check_problem p
         record { long = omega arith; same = λ h. absurd (omega arith) })
 
   -- The shortest, which is written.
-  pub write_then_read : read_file (short_file p) ≡ read.Accepted (cleared_problem p)
+  pub write_then_read : read_file (short_file p) ≡ Ok (cleared_problem p)
   write_then_read = padded_read (short_file p) (short_is p)
 
   -- The linker's.
-  pub wide_read : read_file (wide_file p) ≡ read.Accepted (cleared_problem p)
+  pub wide_read : read_file (wide_file p) ≡ Ok (cleared_problem p)
   wide_read = padded_read (wide_file p) (record { edition = edition_of p; enough = omega arith; known = (edition_limits p).1; padded = wide (numbers_of p) number_count first_field })
 
 -- Write put n bytes into buf: they are the file of p.
 pub record WrittenFile (p : Problem) (buf : List ℕ) (n : ℕ) : Type 0 where
-  pub checked : check_problem p ≡ Done n
+  pub checked : check_problem p ≡ Ok n
   pub room : n ≤ length buf
   pub long : n ≡ length (short_file p)
   pub buffer : written_buffer p buf ≡ short_file p ++ drop n buf
   pub file : take n (written_buffer p buf) ≡ short_file p
 
-pub written_file : (p : Problem) (buf : List ℕ) (n : ℕ) → write_problem p (length buf) ≡ Written n → WrittenFile p buf n
+pub written_file : (p : Problem) (buf : List ℕ) (n : ℕ) → write_problem p (length buf) ≡ Ok n → WrittenFile p buf n
 written_file p buf n e =
     let r : Roomy (check_problem p) (length buf) n = has_room (length buf) n p e in
     let long : n ≡ length (short_file p) = file_length p n r.checked in
@@ -143,8 +139,8 @@ written_file p buf n e =
     }
 
 -- What Write wrote of a problem is read as the problem, with every spare place zero.
-pub written_read : (p : Problem) → Sized p → (buf : List ℕ) (n : ℕ) → write_problem p (length buf) ≡ Written n →
-    read_file (take n (written_buffer p buf)) ≡ read.Accepted (cleared_problem p)
+pub written_read : (p : Problem) → Sized p → (buf : List ℕ) (n : ℕ) → write_problem p (length buf) ≡ Ok n →
+    read_file (take n (written_buffer p buf)) ≡ Ok (cleared_problem p)
 written_read p sized buf n e =
     let w : WrittenFile p buf n = written_file p buf n e in
     ap read_file w.file ∙ write_then_read p sized n w.checked
@@ -153,7 +149,7 @@ written_read p sized buf n e =
 pub record ReadAs (s : List ℕ) (p : Problem) : Type 0 where
   pub sized : Sized p
   pub file : FileOf p s
-  pub checked : check_problem p ≡ Done (length (short_file p))
+  pub checked : check_problem p ≡ Ok (length (short_file p))
   pub spare : cleared_problem p ≡ p
 
 -- The numbers l that the whole of s has.
@@ -164,12 +160,12 @@ module _ (s l : List ℕ) (file : FileRead number_count (replicate number_count 
   own_numbers : numbers_in (edition_in l) (problem_of l) ≡ l
   own_numbers = numbers_of_problem l file.into.size
 
-  fields_checked : check_fields (numbers_of (problem_of l)) ≡ Done (length (short_file (problem_of l)))
+  fields_checked : check_fields (numbers_of (problem_of l)) ≡ Ok (length (short_file (problem_of l)))
   fields_checked =
       let done = settled l file.into.size facts in
-      done.1 ∙ ap Done (judged_ends (numbers_of (problem_of l)) done.0 number_count 0 0 first_field done.1 ∙ omega arith)
+      done.1 ∙ ap Ok (judged_ends (numbers_of (problem_of l)) done.0 number_count 0 0 first_field done.1 ∙ omega arith)
 
-  read_as : judge_graph (problem_of l) ≡ Accepted → ReadAs s (problem_of l)
+  read_as : judge_graph (problem_of l) ≡ Ok tt → ReadAs s (problem_of l)
   read_as graph =
       record {
         sized = sized_problem l;
@@ -188,12 +184,12 @@ module _ (s l : List ℕ) (file : FileRead number_count (replicate number_count 
 
 -- The problem p, written back into buf: the shortest file of p, which is read as p again, and past it what buf held.
 pub record Rewritten (p : Problem) (buf : List ℕ) : Type 0 where
-  pub answer : write_problem p (length buf) ≡ Written (length (short_file p))
+  pub answer : write_problem p (length buf) ≡ Ok (length (short_file p))
   pub buffer : written_buffer p buf ≡ short_file p ++ drop (length (short_file p)) buf
-  pub again : read_file (take (length (short_file p)) (written_buffer p buf)) ≡ read.Accepted p
+  pub again : read_file (take (length (short_file p)) (written_buffer p buf)) ≡ Ok p
 
 -- A file s that Read accepts as p.
-module _ (s : List ℕ) (byte : Bytes s) (p : Problem) (is_read : read_file s ≡ read.Accepted p) where
+module _ (s : List ℕ) (byte : Bytes s) (p : Problem) (is_read : read_file s ≡ Ok p) where
   whole_file : Whole (length s) (read_fields s).answer (read_fields s).numbers p
   unfolding read_file
   whole_file = whole (length s) (read_fields s).numbers p (read_fields s).answer is_read
@@ -203,7 +199,7 @@ module _ (s : List ℕ) (byte : Bytes s) (p : Problem) (is_read : read_file s �
       let w : Whole (length s) (read_fields s).answer (read_fields s).numbers p = whole_file in
       let l : List ℕ = (read_fields s).numbers in
       let file : FileRead number_count (replicate number_count 0) s l =
-      fields_file s l w.end byte w.none_left (ap (λ (f : FieldsAnswer). scanned f l) w.done) in
+      fields_file s l w.end byte w.none_left (ap (λ (f : Result ℕ Refusal). scanned f l) w.done) in
       subst (λ (q : Problem). ReadAs s q) w.problem (read_as s l file w.graph)
 
   -- It is a file of p.
@@ -211,8 +207,8 @@ module _ (s : List ℕ) (byte : Bytes s) (p : Problem) (is_read : read_file s �
   read_file_lem = accepted.file
 
   -- Each file of p is read as p: files that differ in padding and edition alone are not told apart.
-  pub file_read : (t : List ℕ) → FileOf p t → read_file t ≡ read.Accepted p
-  file_read t file = padded_read p accepted.sized (length (short_file p)) accepted.checked t file ∙ ap read.Accepted accepted.spare
+  pub file_read : (t : List ℕ) → FileOf p t → read_file t ≡ Ok p
+  file_read t file = padded_read p accepted.sized (length (short_file p)) accepted.checked t file ∙ ap Ok accepted.spare
 
   -- Of the files of p the one that is written is the shortest.
   shortest_of : (t : List ℕ) → FileOf p t → NoShorter (short_file p) t
@@ -223,13 +219,13 @@ module _ (s : List ℕ) (byte : Bytes s) (p : Problem) (is_read : read_file s �
   read_spare = accepted.spare
 
   -- An accepted problem passes the checks of writing, and needs no more bytes than were read.
-  pub read_checked : (check_problem p ≡ Done (length (short_file p))) × (length (short_file p) ≤ length s)
+  pub read_checked : (check_problem p ≡ Ok (length (short_file p))) × (length (short_file p) ≤ length s)
   read_checked = (accepted.checked, (shortest_of s read_file_lem).long)
 
   -- An accepted file, written back into a buffer with room for the shortest file of its problem.
   pub read_then_write : (buf : List ℕ) → length (short_file p) ≤ length buf → Rewritten p buf
   read_then_write buf room =
-      let answer : write_problem p (length buf) ≡ Written (length (short_file p)) = writes p (length buf) (length (short_file p)) accepted.checked room in
+      let answer : write_problem p (length buf) ≡ Ok (length (short_file p)) = writes p (length buf) (length (short_file p)) accepted.checked room in
       let w : WrittenFile p buf (length (short_file p)) = written_file p buf (length (short_file p)) answer in
       record { answer = answer; buffer = w.buffer; again = ap read_file w.file ∙ file_read (short_file p) (short_is p) }
 
@@ -238,5 +234,5 @@ module _ (s : List ℕ) (byte : Bytes s) (p : Problem) (is_read : read_file s �
   shortest_file h = (shortest_of s read_file_lem).same h
 
   -- So a file than which no other of its problem is shorter keeps its bytes.
-  pub shortest_kept : ((t : List ℕ) → Bytes t → read_file t ≡ read.Accepted p → length s ≤ length t) → s ≡ short_file p
+  pub shortest_kept : ((t : List ℕ) → Bytes t → read_file t ≡ Ok p → length s ≤ length t) → s ≡ short_file p
   shortest_kept least = shortest_file (least (short_file p) (padded_bytes (short_is p).padded) (file_read (short_file p) (short_is p)))

@@ -1,5 +1,6 @@
 -- Numbers that pass the checks of writing are read back from every file of theirs, padded or not.
 use Prim.Native.Nat.{ℕ, ◌+◌, ◌<◌}
+use Rattle.std.specs.Prelude.{Ok}
 use mathlib.Core.Path.{◌≡◌, refl, sym, ap, ◌∙◌}
 use mathlib.Core.List.{List, [], ◌++◌, append_assoc, append-nil}
 use mathlib.Core.Bool.{true, false}
@@ -7,9 +8,7 @@ use native.Mathlib.Omega.{arith}
 use lib.ListN.{length, get_or, set, replicate, length-append, length-set, length-replicate}
 use lib.Seq.{get_or-set_same, get_or-set_other}
 use borrow.Author.Tests.{leb-false}
-use Rattle.model.specs.declared.Number.TheVariants.{Value}
 use Rattle.model.specs.declared.Field.{Field}
-use Rattle.model.specs.declared.FieldsAnswer.TheVariants.{Done}
 use Rattle.model.specs.Spelling.{read_number, groups}
 use Rattle.model.specs.File.{number_count, first_field, edition_in, unwritten, in_range, ascends, scanned, read_from, read_fields, cleared}
 use Rattle.fields.specs.Valid.{Valid}
@@ -57,7 +56,7 @@ module _ (s l : List ℕ) where
       let none : unwritten (edition_in m) c ≡ true = sym (unwritten_agrees l m f same) ∙ t in
       let zero : v ≡ 0 = unwritten_zero l c.place refl p t in
       rw (fill_on n c l v e refl m)
-      (Reads.on v at e (read_unwritten (edition_in m) c none s at ∙ ap (λ (x : ℕ). Value x at) (sym zero))
+      (Reads.on v at e (read_unwritten (edition_in m) c none s at ∙ ap (λ (x : ℕ). Ok (x, at)) (sym zero))
       (sym (range_agrees l m f same v) ∙ p.in_range_lem)
       (order m f same fits p)
       (reads_back at _ end (set m c.place v) pre post (goes_later l f e v p.in_range_lem).valid
@@ -71,7 +70,7 @@ module _ (s l : List ℕ) where
       let fits : c.place < length m = omega (arith, (placed f low).place) in
       let some : unwritten (edition_in m) c ≡ false = sym (unwritten_agrees l m f same) ∙ t in
       let split : s ≡ pre ++ (groups k v ++ (rest ++ post)) = is ∙ rw (append_assoc (groups k v)) in
-      let spelt : read_number s at ≡ Value v (at + k) = rw (split, ← long) (read_padded pre (rest ++ post) v k (in_range_small l c v low p.in_range_lem) enough few) in
+      let spelt : read_number s at ≡ Ok (v, (at + k)) = rw (split, ← long) (read_padded pre (rest ++ post) v k (in_range_small l c v low p.in_range_lem) enough few) in
       let wide : length (groups k v) ≡ k = groups_length k v in
       rw (fill_on n c l v e refl m)
       (Reads.on v (at + k) e (read_written (edition_in m) c some s at ∙ spelt)
@@ -86,13 +85,13 @@ module _ (s l : List ℕ) where
       later more))
 
 scan_back : (n : ℕ) (z l s : List ℕ) → length z ≡ number_count → Good l n first_field → Padded l n first_field s →
-    read_from n s 0 0 first_field z ≡ scanned (Done (length s)) (fill_from n first_field l z)
+    read_from n s 0 0 first_field z ≡ scanned (Ok (length s)) (fill_from n first_field l z)
 scan_back n z l s size good padded =
     let none_before : Alike first_field l z = λ k h. absurd (omega (arith, h.below)) in
     is_read (reads_back s l 0 0 (length s) z [] [] Valid.edition none_before size refl (sym (append-nil s)) (omega arith) good padded)
 
 -- A file of good numbers is read as those numbers, with every spare place zero.
-pub fields_back : (l s : List ℕ) → GoodNumbers l → Padded l number_count first_field s → read_fields s ≡ scanned (Done (length s)) (cleared l)
+pub fields_back : (l s : List ℕ) → GoodNumbers l → Padded l number_count first_field s → read_fields s ≡ scanned (Ok (length s)) (cleared l)
 fields_back l s good padded =
     scan_back number_count (replicate number_count 0) l s (length-replicate {A = ℕ} number_count 0) good padded
-    ∙ ap (scanned (Done (length s))) (fill_cleared l good)
+    ∙ ap (scanned (Ok (length s))) (fill_cleared l good)

@@ -1,8 +1,8 @@
 -- What the loop that makes the rows knows: the rows so far are the first of the drawing's.
 use Prim.Native.Nat.{ℕ, ◌+◌, ◌-◌, ◌≤◌, ◌<◌}
-use mathlib.Core.Path.{◌≡◌, refl, sym, ap, ◌∙◌}
+use Rattle.std.specs.Prelude.{None, Some, Option}
+use mathlib.Core.Path.{◌≡◌, refl, sym, ap, subst, ◌∙◌}
 use mathlib.Core.List.{List}
-use mathlib.Core.Option.{Option, some, none}
 use native.Mathlib.Omega.{arith}
 use native.Mathlib.Numerals.{add-one}
 use lib.ListN.{length, take, set, replicate, length-set, length-replicate}
@@ -13,20 +13,9 @@ use Rattle.model.specs.Drawings.{called_by}
 use Rattle.model.specs.Inlining.{row, row_at, after, row_after, extended, one_more, rows_up_to}
 use Rattle.model.specs.Inlined.{inlined_rows}
 use Rattle.drawings.specs.Facts.{DrawingFacts}
-use Rattle.rows.specs.declared.Next.{Next}
-use Rattle.rows.specs.declared.Next.TheVariants as next
 use Rattle.rows.specs.Fit.{RowFits, RowsMade}
-use Rattle.rows.specs.Next.{told, Followed}
+use Rattle.rows.specs.Next.{Followed}
 use Rattle.rows.proofs.Held.{rows_held, rows_fit, rows_end}
-
--- What the code is told is the row that follows.
-told_row : (o : Option Row) (r : Row) → told o ≡ next.Behind r → o ≡ some r
-told_row none r e = let z : ◌≡◌ {A = ℕ} 0 1 = cc in absurd (omega arith)
-told_row (some q) r e = let same : q ≡ r = cc in ap some same
-
-told_end : (o : Option Row) → told o ≡ next.End → o ≡ none
-told_end none e = refl
-told_end (some q) e = let z : ◌≡◌ {A = ℕ} 0 1 = cc in absurd (omega arith)
 
 module _ (d : List ℕ) where
   pub record Going (rows : List Row) (last : ℕ) : Type 0 where
@@ -51,8 +40,10 @@ module _ (d : List ℕ) where
     made : DrawingFacts d → rows_up_to d last ≡ inlined_rows d → RowsMade d rows (last + 1)
     made facts all = record { count_is = sym count_is ∙ ap length all; are = going.are ∙ all; fit = rows_fit d facts }
 
-    pub made_full : DrawingFacts d → places.most_vertices ≤ last → RowsMade d rows (last + 1)
-    made_full facts h = let full : last ≡ places.most_vertices = omega (arith, going.few) in made facts (ap (rows_up_to d) full)
+    pub made_full : DrawingFacts d → places.most_vertices ≤ last → RowsMade d rows (places.most_vertices + 1)
+    made_full facts h =
+        let full : last ≡ places.most_vertices = omega (arith, going.few) in
+        subst (λ (n : ℕ). RowsMade d rows (n + 1)) full (made facts (ap (rows_up_to d) full))
 
     module _ (facts : DrawingFacts d) (at : ℕ) (is : at ≡ (row_at rows last).first - 1) where
       pub caller_below : at ≤ last
@@ -82,7 +73,7 @@ module _ (d : List ℕ) where
           let here : length (rows_up_to d last) - 1 ≡ last = omega (arith, count_is) in
           rw (here, same_row last (omega arith), ← is, same_row at caller_below)
 
-      pub going_on : last < places.most_vertices → (n : Next) (r : Row) → n ≡ told follower → n ≡ next.Behind r → Going (set rows (last + 1) r) (last + 1)
+      pub going_on : last < places.most_vertices → (n : Option Row) (r : Row) → n ≡ follower → n ≡ Some r → Going (set rows (last + 1) r) (last + 1)
       unfolding rows_up_to one_more
       going_on h n r is_told e =
           record {
@@ -91,12 +82,12 @@ module _ (d : List ℕ) where
             are =
                 ap (λ (n : ℕ). take n (set rows (last + 1) r)) (add-one (last + 1))
                 ∙ take-suc-set rows (last + 1) r (omega (arith, going.long))
-                ∙ ap (λ (s : List Row). extended s (some r)) going.are
-                ∙ sym (ap (extended (rows_up_to d last)) (follows ∙ told_row follower r (sym is_told ∙ e)))
+                ∙ ap (λ (s : List Row). extended s (Some r)) going.are
+                ∙ sym (ap (extended (rows_up_to d last)) (follows ∙ (sym is_told ∙ e)))
                 ∙ ap (rows_up_to d) (sym (add-one last));
           }
 
-      pub made_all : (n : Next) → n ≡ told follower → n ≡ next.End → RowsMade d rows (last + 1)
+      pub made_all : (n : Option Row) → n ≡ follower → n ≡ None → RowsMade d rows (last + 1)
       made_all n is_told e =
           let all : places.most_vertices - last + last ≡ places.most_vertices = omega (arith, going.few) in
-          made facts (sym (rows_end d last (places.most_vertices - last) (follows ∙ told_end follower (sym is_told ∙ e))) ∙ ap (rows_up_to d) all)
+          made facts (sym (rows_end d last (places.most_vertices - last) (follows ∙ (sym is_told ∙ e))) ∙ ap (rows_up_to d) all)

@@ -2,7 +2,7 @@
 use Prim.Native.Nat.{ℕ, zero, suc, ◌+◌, ◌-◌, ◌≤◌, ◌<◌}
 use mathlib.Core.Path.{◌≡◌, refl, ap, ◌∙◌}
 use mathlib.Core.List.{List, [], ◌∷◌, ◌++◌}
-use mathlib.Core.Option.{Option, some, none}
+use Rattle.std.specs.Prelude.{Option, Some, None}
 use native.Mathlib.Omega.{arith}
 use native.Mathlib.Nat.{zero-add}
 use lib.ListN.{length, length-append, get_or-append}
@@ -34,8 +34,8 @@ module _ (d : List ℕ) where
 
   -- What may follow rows that are held.
   abbrev Joins : List Row → Option Row → Type 0
-  Joins s none = Unit {0}
-  Joins s (some r) = RowFits d (length s) r × Returns s r
+  Joins s None = Unit {0}
+  Joins s (Some r) = RowFits d (length s) r × Returns s r
 
   held_first : DrawingFacts d → Held (row 0 0 0 ∷ [])
   held_first facts =
@@ -54,7 +54,7 @@ module _ (d : List ℕ) where
       }
 
   module _ (s : List Row) (held : Held s) where
-    module _ (r : Row) (joins : Joins s (some r)) where
+    module _ (r : Row) (joins : Joins s (Some r)) where
       abbrev more : List Row
       more = s ++ (r ∷ [])
 
@@ -85,8 +85,8 @@ module _ (d : List ℕ) where
           }
 
     held_extended : (o : Option Row) → Joins s o → Held (extended s o)
-    held_extended none joins = held
-    held_extended (some r) joins = held_joined r joins
+    held_extended None joins = held
+    held_extended (Some r) joins = held_joined r joins
 
     module _ (facts : DrawingFacts d) (i : ℕ) (is_last : i ≡ length s - 1) where
       abbrev r : Row
@@ -105,16 +105,16 @@ module _ (d : List ℕ) where
       graph = facts.drawn r.function fits.function
 
       -- A graph's last vertex calls nothing.
-      call_goes_on : (g : ℕ) → called_by d r.function r.vertex ≡ some g → GoesOn r
+      call_goes_on : (g : ℕ) → called_by d r.function r.vertex ≡ Some g → GoesOn r
       call_goes_on g e =
           by_order (r.vertex + 1) (drawn_count d r.function) (λ h. h)
           (λ h.
           let at_end_lem : r.vertex ≡ drawn_count d r.function - 1 = omega (arith, fits.vertex) in
-          let quiet : called_by d r.function r.vertex ≡ none = ap (called_by d r.function) at_end_lem ∙ graph.quiet in
+          let quiet : called_by d r.function r.vertex ≡ None = ap (called_by d r.function) at_end_lem ∙ graph.quiet in
           let z : ◌≡◌ {A = ℕ} 0 1 = cc in
           absurd (omega arith))
 
-      joins_callee : (g : ℕ) → called_by d r.function r.vertex ≡ some g → Joins s (some (row g 0 (i + 1)))
+      joins_callee : (g : ℕ) → called_by d r.function r.vertex ≡ Some g → Joins s (Some (row g 0 (i + 1)))
       joins_callee g e =
           let known : g < drawn_functions d = graph.known r.vertex g fits.vertex e in
           let here : i + 1 - 1 ≡ i = omega arith in (
@@ -122,11 +122,11 @@ module _ (d : List ℕ) where
             λ called. rw here (call_goes_on g e),
           )
 
-      joins_next : GoesOn r → Joins s (some (row r.function (r.vertex + 1) r.first))
+      joins_next : GoesOn r → Joins s (Some (row r.function (r.vertex + 1) r.first))
       joins_next h =
           (record { function = fits.function; vertex = h; first = omega (arith, last_below_lem, fits.first) }, held.returns i last_below_lem)
 
-      joins_back : (r.first ≡ 0 → ⊥) → Joins s (some (row caller.function (caller.vertex + 1) caller.first))
+      joins_back : (r.first ≡ 0 → ⊥) → Joins s (Some (row caller.function (caller.vertex + 1) caller.first))
       joins_back called =
           let below : r.first - 1 < length s = omega (arith, last_below_lem, fits.first) in (
             record {
@@ -138,8 +138,8 @@ module _ (d : List ℕ) where
           )
 
       joins_after : (o : Option ℕ) → called_by d r.function r.vertex ≡ o → Joins s (after d o r caller i)
-      joins_after (some g) e = joins_callee g e
-      joins_after none e =
+      joins_after (Some g) e = joins_callee g e
+      joins_after None e =
           by_less (Joins s) (r.vertex + 1) (drawn_count d r.function) joins_next
           (λ h. by_cond (Joins s) (eqb r.first 0) (λ q. tt) (λ q. joins_back (eqb-false r.first 0 q)))
 
@@ -156,8 +156,8 @@ module _ (d : List ℕ) where
   rows_fit facts = (rows_held facts places.most_vertices).fit
 
   extended_length : (s : List Row) (o : Option Row) → length (extended s o) ≤ length s + 1
-  extended_length s none = omega arith
-  extended_length s (some r) = omega (arith, length-append s (r ∷ []))
+  extended_length s None = omega arith
+  extended_length s (Some r) = omega (arith, length-append s (r ∷ []))
 
   rows_length : (n : ℕ) → length (rows_up_to d n) ≤ n + 1
   unfolding rows_up_to one_more
@@ -168,7 +168,7 @@ module _ (d : List ℕ) where
   rows_few = rows_length places.most_vertices
 
   -- Where nothing follows, there are no more rows.
-  pub rows_end : (n k : ℕ) → row_after d (rows_up_to d n) (length (rows_up_to d n) - 1) ≡ none → rows_up_to d (k + n) ≡ rows_up_to d n
+  pub rows_end : (n k : ℕ) → row_after d (rows_up_to d n) (length (rows_up_to d n) - 1) ≡ None → rows_up_to d (k + n) ≡ rows_up_to d n
   unfolding rows_up_to one_more
   rows_end n zero e = ap (rows_up_to d) (zero-add n)
   rows_end n (suc k) e =

@@ -6,7 +6,7 @@ ghost use Rattle.model.specs.Drawings.{called_by};
 ghost use Rattle.model.specs.Inlining.{after};
 ghost use Rattle.drawings.specs.Facts.{DrawingFacts};
 ghost use Rattle.rows.specs.Fit.{RowsMade};
-ghost use Rattle.rows.specs.Next.{told, Followed};
+ghost use Rattle.rows.specs.Next.{Followed};
 
 use model::{Drawing, Row, drawn, places};
 
@@ -20,27 +20,17 @@ pub struct Rows {
     pub rows: [Row; ROOM],
 }
 
-// What follows a row.
-#[derive(Clone, Copy)]
-pub enum Next {
-    End,
-    Behind(Row),
-}
-
 // The number before n, and 0 before 0. The row of a copy's call vertex is the one before its first; function 0's copy has none.
 pub fn one_before(n: usize) -> usize
     ensures { result ≡ n - 1 }
 {
-    if n == 0 {
-        return 0;
-    }
-    n - 1
+    n.saturating_sub(1)
 }
 
 // The row after row i, which is `r`, in a copy that was called at `caller`.
-fn row_after(d: &Drawing, r: Row, caller: Row, i: usize) -> Next
+fn row_after(d: &Drawing, r: Row, caller: Row, i: usize) -> Option<Row>
     requires { Followed r caller i }
-    ensures { result ≡ told (after d.now (called_by d.now r.function r.vertex) r caller i) }
+    ensures { result ≡ after d.now (called_by d.now r.function r.vertex) r caller i }
 {
     let f = r.function;
     let v = r.vertex;
@@ -52,27 +42,25 @@ fn row_after(d: &Drawing, r: Row, caller: Row, i: usize) -> Next
             vertex: 0,
             first: begin,
         };
-        return Next::Behind(first);
+        return Some(first);
     }
     let onward = v + 1;
     if onward < drawings::vertex_count(d, f) {
         let next = Row {
-            function: f,
             vertex: onward,
-            first: r.first,
+            ..r
         };
-        return Next::Behind(next);
+        return Some(next);
     }
     if r.first == 0 {
-        return Next::End;
+        return None;
     }
     let behind = caller.vertex + 1;
     let back = Row {
-        function: caller.function,
         vertex: behind,
-        first: caller.first,
+        ..caller
     };
-    Next::Behind(back)
+    Some(back)
 }
 
 // All rows, or one more than a problem may have vertices.
@@ -86,22 +74,17 @@ pub fn rows_of(d: &Drawing) -> Rows
         first: 0,
     };
     let mut rows = [start; ROOM];
-    let mut last: usize = 0;
-    while last < places::MOST_VERTICES {
+    for last in 0..places::MOST_VERTICES {
         let r = rows[last];
         let caller = rows[one_before(r.first)];
         let next = row_after(d, r, caller, last);
-        let Next::Behind(more) = next else {
+        let Some(more) = next else {
             return Rows {
                 count: last + 1,
-                rows: rows,
+                rows,
             };
         };
-        last += 1;
-        rows[last] = more;
+        rows[last + 1] = more;
     }
-    Rows {
-        count: last + 1,
-        rows: rows,
-    }
+    Rows { count: ROOM, rows }
 }

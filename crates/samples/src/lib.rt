@@ -15,11 +15,7 @@ fn put(l: &mut Numbers, at: usize, part: &[u64])
     requires { at + length part.now ≤ spot.end }
     ensures { l.new ≡ sets l.old at part.now }
 {
-    let mut i: usize = 0;
-    while i < part.len() {
-        l[at + i] = part[i];
-        i += 1;
-    }
+    l[at..at + part.len()].copy_from_slice(part);
 }
 
 // A problem from its lists: of each its count, and then its items' numbers.

@@ -1,5 +1,6 @@
 -- A function's fields: what the field table says of them, and that reading one goes on as the steps do.
 use Prim.Native.Nat.{ℕ, suc, ◌+◌, ◌-◌, ◌<◌}
+use Rattle.std.specs.Prelude.{Ok}
 use mathlib.Core.Path.{◌≡◌, refl, sym, ◌∙◌}
 use mathlib.Core.List.{List}
 use mathlib.Core.Bool.{true}
@@ -8,7 +9,6 @@ use native.Mathlib.Numerals.{unary_clauses}
 use lib.ListN.{set, length-set}
 use borrow.Author.Tests.{ne_eqb}
 use Rattle.model.specs.declared.Field.{Field}
-use Rattle.model.specs.declared.Number.TheVariants.{Value}
 use Rattle.model.specs.Table.{kinds, jumps, base}
 use Rattle.model.specs.File.{number_count, next_field, after_item, edition_in, read_field, in_range, ascends, item_start}
 use Rattle.model.proofs.Cases.{by_same}
@@ -57,7 +57,7 @@ module _ {s : List ℕ} {c : Field} {at start : ℕ} {l : List ℕ} {d : Field} 
   pub here_placed : Placed d
   here_placed = placed far.readable.valid far.going
 
-  module _ {v next : ℕ} (is : read_field (edition_in m) s at' d ≡ Value v next) (good : in_range m d v ≡ true) {e : Field} (after : e ≡ next_field d v) where
+  module _ {v next : ℕ} (is : read_field (edition_in m) s at' d ≡ Ok (v, next)) (good : in_range m d v ≡ true) {e : Field} (after : e ≡ next_field d v) where
     pub nearer : number_count - e.place < number_count - d.place
     nearer = omega (arith, here_placed.place, (ranged_later far.readable.valid far.going m v good after).higher)
 

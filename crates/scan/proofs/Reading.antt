@@ -1,34 +1,26 @@
 -- The loop that reads: what is left to read from the present field is what was to be read from the first.
 use Prim.Native.Nat.{ℕ, suc, ◌+◌, ◌*◌, ◌-◌, ◌≤◌, ◌<◌}
+use Rattle.std.specs.Prelude.{Err, Ok, Result}
+use Rattle.model.specs.declared.Refusal.{Refusal}
+use Rattle.model.specs.declared.Misread.{Misread}
+use Rattle.model.specs.declared.Misread.TheVariants.{Ended, Misspelt}
 use mathlib.Core.Path.{◌≡◌, refl, sym, ap, ◌∙◌}
 use mathlib.Core.List.{List, [], ◌∷◌}
 use mathlib.Core.Bool.{true, false}
-use mathlib.Core.Logic.{⊎_elim}
 use native.Mathlib.Omega.{arith}
-use types.Run.{OneOf}
-use denote.Enum.Declared.{tag_of}
 use lib.ListN.{length, set, length-set}
 use Rattle.model.specs.declared.Field.{Field}
-use Rattle.model.specs.declared.FieldsAnswer.{FieldsAnswer}
-use Rattle.model.specs.declared.FieldsAnswer.TheVariants.{Done, Refused}
 use Rattle.model.specs.declared.Refusal.TheVariants as refusal
-use Rattle.model.specs.declared.Number as spelt
-use Rattle.model.specs.declared.Number.TheVariants as number
 use Rattle.model.specs.File.{number_count, first_field, next_field, edition_in, read_field, in_range, ascends, item_start, Scan, scanned, read_from}
-use Rattle.model.specs.contracts.Number.{the_type}
 use Rattle.editions.proofs.Fields.{field_inside}
 use Rattle.fields.proofs.Steps.{placed, ranged_later}
 use Rattle.fields.proofs.OneField.{read_done, read_ended, read_misspelt, read_out, read_disorder, read_on}
 use Rattle.edge_runs.specs.Edges.{past_pairs, PairsRead}
-use Rattle.scan.specs.Answers.{misread}
+use Rattle.scan.specs.Answers.{misread, or_refused}
 use Rattle.scan.specs.Functions.{Further}
 use Rattle.edge_runs.proofs.Going.{Reached, reached_first, to_come, reached_next, reached_past, past_to_come}
 use Rattle.model.specs.Places as places
 use Rattle.model.specs.Rows as rows
-
--- What the other arm of a `let` on a number knows: by its tag it is no value.
-abbrev NoValue : spelt.Number → Type 0
-NoValue m = OneOf (1 ∷ 2 ∷ []) (tag_of the_type m)
 
 pub record Reading (bytes numbers₀ numbers : List ℕ) (field : Field) (at start : ℕ) : Type 0 where
   pub count : ℕ
@@ -44,7 +36,7 @@ module _ {bytes numbers₀ numbers : List ℕ} {field : Field} {at start : ℕ} 
   abbrev whole : Scan
   whole = read_from number_count bytes 0 0 first_field numbers₀
 
-  pub read_all : rows.end ≤ field.row → scanned (Done at) numbers ≡ whole
+  pub read_all : rows.end ≤ field.row → scanned (Ok at) numbers ≡ whole
   read_all h = sym (read_done bytes at start field numbers _ h) ∙ r.same
 
   module _ (h : field.row < rows.end) where
@@ -78,19 +70,32 @@ module _ {bytes numbers₀ numbers : List ℕ} {field : Field} {at start : ℕ} 
     turn : read_from (suc (number_count - (r.count + 1))) bytes at start field numbers ≡ whole
     turn = ap (λ (n : ℕ). read_from n bytes at start field numbers) (sym (to_come r.reached h)) ∙ r.same
 
-    pub read_refused_lem : (m : spelt.Number) → m ≡ read_field (edition_in numbers) bytes at field → NoValue m → {f : FieldsAnswer} → f ≡ misread m (length bytes) at → scanned f numbers ≡ whole
+    read_refused : (m : Misread) → read_field (edition_in numbers) bytes at field ≡ Err m → {f : Refusal} → f ≡ misread m (length bytes) at →
+        scanned (Err f) numbers ≡ whole
     unfolding misread
-    read_refused_lem (number.Value v next) is told e = ⊎_elim (λ z. let q : ⊥ = omega arith in elim q [ ]) (λ z. let q : ⊥ = omega arith in elim q [ ]) told
-    read_refused_lem number.Ended is told e = ap (λ (f : FieldsAnswer). scanned f numbers) e ∙ sym (read_ended bytes at start field numbers _ h (sym is)) ∙ turn
-    read_refused_lem number.Misspelt is told e = ap (λ (f : FieldsAnswer). scanned f numbers) e ∙ sym (read_misspelt bytes at start field numbers _ h (sym is)) ∙ turn
+    read_refused Ended is e = ap (λ (f : Refusal). scanned (Err f) numbers) e ∙ sym (read_ended bytes at start field numbers _ h is) ∙ turn
+    read_refused Misspelt is e = ap (λ (f : Refusal). scanned (Err f) numbers) e ∙ sym (read_misspelt bytes at start field numbers _ h is) ∙ turn
 
-    module _ {v next : ℕ} (is : read_field (edition_in numbers) bytes at field ≡ number.Value v next) where
-      pub read_too_far : in_range numbers field v ≡ false → scanned (Refused (refusal.OutOfRange at)) numbers ≡ whole
+    -- A number that was read is no refusal, and a refusal is no number.
+    pub read_there : {v next : ℕ} (r : Result (ℕ × ℕ) Misread) → Ok (v, next) ≡ or_refused r (length bytes) at → r ≡ Ok (v, next)
+    read_there (Ok (w, behind)) e = sym (ok_alike e)
+      where
+        ok_alike : {p q : ℕ × ℕ} → ◌≡◌ {A = Result (ℕ × ℕ) Refusal} (Ok p) (Ok q) → ◌≡◌ {A = Result (ℕ × ℕ) Misread} (Ok p) (Ok q)
+        ok_alike e = cc
+    read_there (Err why) e = let z : ◌≡◌ {A = ℕ} 0 1 = cc in absurd (omega arith)
+
+    pub not_read : {f : Refusal} (r : Result (ℕ × ℕ) Misread) → Err f ≡ or_refused r (length bytes) at → r ≡ read_field (edition_in numbers) bytes at field →
+        scanned (Err f) numbers ≡ whole
+    not_read (Ok read) e is = let z : ◌≡◌ {A = ℕ} 0 1 = cc in absurd (omega arith)
+    not_read (Err why) e is = read_refused why (sym is) (cc)
+
+    module _ {v next : ℕ} (is : read_field (edition_in numbers) bytes at field ≡ Ok (v, next)) where
+      pub read_too_far : in_range numbers field v ≡ false → scanned (Err (refusal.OutOfRange at)) numbers ≡ whole
       read_too_far f = sym (read_out bytes at start field numbers _ h v next is f) ∙ turn
 
       module _ (f : in_range numbers field v ≡ true) where
         module _ {start' : ℕ} (starts : start' ≡ item_start field at start) where
-          pub read_unordered : ascends (set numbers field.place v) field ≡ false → scanned (Refused (refusal.NotAscending start')) (set numbers field.place v) ≡ whole
+          pub read_unordered : ascends (set numbers field.place v) field ≡ false → scanned (Err (refusal.NotAscending start')) (set numbers field.place v) ≡ whole
           read_unordered g = rw starts (sym (read_disorder bytes at start field numbers _ h v next is f g) ∙ turn)
 
           pub read_next : ascends (set numbers field.place v) field ≡ true → {d : Field} → d ≡ next_field field v → Reading bytes numbers₀ (set numbers field.place v) d next start'

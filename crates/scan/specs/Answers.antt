@@ -1,13 +1,16 @@
 -- What is answered where a number cannot be read.
-use Rattle.std.specs.Prelude.{ℕ}
+use Rattle.std.specs.Prelude.{ℕ, Result, Ok, Err}
+use Rattle.model.specs.declared.Refusal.{Refusal}
+use Rattle.model.specs.declared.Misread.{Misread}
+use Rattle.model.specs.declared.Misread.TheVariants.{Ended, Misspelt}
 use Rattle.model.specs.declared.Refusal.TheVariants as refusal
-use Rattle.model.specs.declared.Number as spelt
-use Rattle.model.specs.declared.Number.TheVariants as number
-use Rattle.model.specs.declared.FieldsAnswer.{FieldsAnswer}
-use Rattle.model.specs.declared.FieldsAnswer.TheVariants.{Done, Refused}
 
--- 1, the bytes end before the number does; 2, it is misspelt. (A number that was read leads on to the position after it.)
-unfoldable pub misread : spelt.Number → ℕ → ℕ → FieldsAnswer
-misread (number.Value v next) size at = Done next
-misread number.Ended size at = Refused (refusal.EndsEarly size)
-misread number.Misspelt size at = Refused (refusal.Misspelt at)
+-- 1, the bytes end before the number does; 2, it is misspelt.
+unfoldable pub misread : Misread → ℕ → ℕ → Refusal
+misread Ended size at = refusal.EndsEarly size
+misread Misspelt size at = refusal.Misspelt at
+
+-- What was read with the position after it, or that refusal.
+abbrev pub or_refused : Result (ℕ × ℕ) Misread → ℕ → ℕ → Result (ℕ × ℕ) Refusal
+or_refused (Ok read) size at = Ok read
+or_refused (Err why) size at = Err (misread why size at)

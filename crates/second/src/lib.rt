@@ -35,6 +35,7 @@ fn second_flag(
 }
 
 // Flags of the vertices whose visits are charged a load: those that are flagged as contested, and the early ones that no loop holds.
+#[tactic(auto, using(chains::proofs::Checks::checked_bounds))]
 pub fn second_flags(
     l: &Numbers,
     loops: &LoopTable,
@@ -46,15 +47,14 @@ pub fn second_flags(
 {
     let count = lookup::vertex_count(l);
     let mut charged = [0u8; places::MOST_VERTICES];
-    let mut v: usize = 0;
-    while v < count {
+    for v in 0..count {
         charged[v] = second_flag(loops, early, flags, v);
-        v += 1;
     }
     charged
 }
 
 // What entering loop i is charged: if no loop before it holds its header, the load cost of each function of which its range holds an early vertex.
+#[tactic(auto, using(chains::proofs::Checks::checked_bounds))]
 fn entry_charge(l: &Numbers, loops: &LoopTable, early: &EarlyWords, i: usize) -> Cycles
     requires checked_1 { Checked l.now }
     requires checked_2 { LoopChains l.now loops.now }
@@ -71,6 +71,7 @@ fn entry_charge(l: &Numbers, loops: &LoopTable, early: &EarlyWords, i: usize) ->
 }
 
 // What entering each loop is charged, by its header.
+#[tactic(auto, using(chains::proofs::Checks::checked_bounds))]
 pub fn entry_charges(
     l: &Numbers,
     loops: &LoopTable,
@@ -83,12 +84,10 @@ pub fn entry_charges(
 {
     let count = lookup::loop_count(l);
     let mut enter = [0u64; places::MOST_VERTICES];
-    let mut i: usize = 0;
-    while i < count {
+    for i in 0..count {
         let entry = entry_charge(l, loops, early, i);
         let header = lookup::loop_header(l, i);
         enter[header] = entry.0;
-        i += 1;
     }
     enter
 }

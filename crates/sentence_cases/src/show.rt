@@ -1,28 +1,23 @@
 // A remark's sentence, or a text with what it reads as, in a line.
-use model::{Reason, Refusal, Remark, SentenceAnswer, WordAnswer, limits};
+use model::{Reason, Refusal, Remark, limits};
 use prints::{number, text};
 use std::io;
 use std::io::Write;
 
 fn refused(out: &mut impl Write, refusal: Refusal) -> io::Result<()> {
-    prints::placed(
-        out,
-        b"refused ",
-        model::number_of(refusal),
-        model::place_of(refusal),
-    )
+    prints::placed(out, b"refused ", refusal.number(), refusal.place())
 }
 
 // Into as many bytes as are lent.
 pub fn worded(out: &mut impl Write, remark: Remark, lent: &mut [u8]) -> io::Result<()> {
     let answer = sentences::word(remark, lent);
     match answer {
-        WordAnswer::Worded(bytes) => {
+        Ok(bytes) => {
             if bytes <= lent.len() {
                 text(out, &lent[..bytes])?;
             }
         }
-        WordAnswer::Refused(refusal) => refused(out, refusal)?,
+        Err(refusal) => refused(out, refusal)?,
     }
     text(out, b"\n")
 }
@@ -49,12 +44,7 @@ fn explained(out: &mut impl Write, reason: Reason) -> io::Result<()> {
 fn meant(out: &mut impl Write, remark: Remark) -> io::Result<()> {
     match remark {
         Remark::Refused(refusal) => {
-            prints::placed(
-                out,
-                b"",
-                model::number_of(refusal),
-                model::place_of(refusal),
-            )?;
+            prints::placed(out, b"", refusal.number(), refusal.place())?;
         }
         Remark::Explained(reason) => explained(out, reason)?,
     }
@@ -68,8 +58,8 @@ pub fn read(out: &mut impl Write, words: &[u8]) -> io::Result<()> {
     text(out, b"`: ")?;
     let answer = sentences::read_sentence(words);
     match answer {
-        SentenceAnswer::Meant(remark) => meant(out, remark)?,
-        SentenceAnswer::Refused(refusal) => refused(out, refusal)?,
+        Ok(remark) => meant(out, remark)?,
+        Err(refusal) => refused(out, refusal)?,
     }
     text(out, b"\n")
 }

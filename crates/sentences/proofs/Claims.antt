@@ -1,12 +1,11 @@
 -- What is claimed of sentences: reading gives back what a sentence came from, no two remarks share one, no two answers are right, and none is longer than 128.
-use Prim.Native.Nat.{ℕ, suc, ◌+◌, ◌-◌}
+use Prim.Native.Nat.{ℕ, suc}
+use Rattle.std.specs.Prelude.{Err, Ok, Result}
+use Rattle.model.specs.declared.Refusal.{Refusal}
 use mathlib.Core.Path.{◌≡◌, refl, sym, ap, ◌∙◌, subst}
 use mathlib.Core.List.{List, ◌++◌}
 use lib.ListN.{take}
 use Rattle.model.specs.declared.Remark.{Remark}
-use Rattle.model.specs.declared.Remark.TheVariants as remark
-use Rattle.model.specs.declared.SentenceAnswer.{SentenceAnswer}
-use Rattle.model.specs.declared.SentenceAnswer.TheVariants as read
 use Rattle.model.specs.Sentences.{sentence, Wordable, Begins, ReadsAs}
 use Rattle.grammar.specs.Grammar.{Out, Meant, Stuck, read_by, Spells, Starts, Reads}
 use Rattle.grammar.proofs.Reading.{reads, one_meaning, decided}
@@ -29,11 +28,11 @@ from_reads s (Meant r) x = told s r x
 from_reads s (Stuck k) (none, low, starts, more) =
     (λ r w e. none r (spelt_as s r w e), (k, refl, low, to_begins (take k s) starts, λ h b. more h (from_begins (take (suc k) s) b)))
 
-to_reads : (s : List ℕ) (a : SentenceAnswer) → ReadsAs s a → (o : Out Remark) × (a ≡ answer_of o) × Reads remarks s o
-to_reads s (read.Meant r) (w, e) = (Meant r, refl, spelt_as s r w e)
-to_reads s (read.Refused f) (none, (k, is, low, begins, more)) = (
+to_reads : (s : List ℕ) (a : Result Remark Refusal) → ReadsAs s a → (o : Out Remark) × (a ≡ answer_of o) × Reads remarks s o
+to_reads s (Ok r) (w, e) = (Meant r, refl, spelt_as s r w e)
+to_reads s (Err f) (none, (k, is, low, begins, more)) = (
   Stuck k,
-  ap read.Refused is,
+  ap Err is,
   ((λ r x. let (w, e) = told s r x in none r w e), low, from_begins (take k s) begins, λ h b. more h (to_begins (take (suc k) s) b)),
 )
 
@@ -42,15 +41,15 @@ pub reads_as_lem : (s : List ℕ) → ReadsAs s (answer_of (read_by remarks s 0)
 reads_as_lem s = from_reads s (read_by remarks s 0) (reads remarks remarks_live.good remarks_live.alive s)
 
 -- No two answers are right.
-pub sentence_decided : (s : List ℕ) (a b : SentenceAnswer) → ReadsAs s a → ReadsAs s b → a ≡ b
+pub sentence_decided : (s : List ℕ) (a b : Result Remark Refusal) → ReadsAs s a → ReadsAs s b → a ≡ b
 sentence_decided s a b x y =
     let (o, e, u) = to_reads s a x in
     let (p, f, v) = to_reads s b y in
     e ∙ ap answer_of (decided remarks remarks_live.good s o p u v) ∙ sym f
 
 -- The sentence of a wordable remark reads as that remark, and as nothing else.
-pub read_back : (r : Remark) → Wordable r → (a : SentenceAnswer) → ReadsAs (sentence r) a → a ≡ read.Meant r
-read_back r w a x = sentence_decided (sentence r) a (read.Meant r) x (w, refl)
+pub read_back : (r : Remark) → Wordable r → (a : Result Remark Refusal) → ReadsAs (sentence r) a → a ≡ Ok r
+read_back r w a x = sentence_decided (sentence r) a (Ok r) x (w, refl)
 
 -- No two wordable remarks share a sentence.
 pub no_two : (r q : Remark) → Wordable r → Wordable q → sentence r ≡ sentence q → r ≡ q

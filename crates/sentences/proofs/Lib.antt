@@ -1,7 +1,6 @@
 pub mod Told
 pub mod Claims
 pub mod Sizes
-pub mod Wording
 pub mod Steps
 pub mod Openings
 pub mod Worked

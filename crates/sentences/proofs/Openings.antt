@@ -1,12 +1,14 @@
 -- A text's first byte tells which sentence it may be.
 use Prim.Native.Nat.{ℕ, ◌-◌, ◌<◌}
+use Rattle.std.specs.Prelude.{Result}
+use Rattle.model.specs.declared.Refusal.{Refusal}
+use Rattle.model.specs.declared.Remark.{Remark}
 use native.Mathlib.Omega.{arith}
 use mathlib.Core.Path.{◌≡◌, sym, subst}
 use mathlib.Core.List.{List, [], ◌∷◌}
 use lib.ListN.{length, get_or}
 use Rattle.model.specs.declared.Reason.TheVariants.{FirstLoad, Never}
 use Rattle.model.specs.declared.Remark.TheVariants.{Explained}
-use Rattle.model.specs.declared.SentenceAnswer.{SentenceAnswer}
 use Rattle.model.specs.Refusals.{last_refusal}
 use Rattle.model.specs.Places.{most_functions}
 use Rattle.model.specs.Decimals.{text}
@@ -19,18 +21,18 @@ use Rattle.sentences.proofs.Claims.{reads_as_lem}
 use Rattle.sentences.proofs.Steps.{Answers, opens_so, opens_otherwise}
 
 -- What is read by the grammar is right, and so is its outcome.
-abbrev pub Answered : List ℕ → SentenceAnswer → Type 0
+abbrev pub Answered : List ℕ → Result Remark Refusal → Type 0
 Answered s answer = ReadsAs s answer × Understood s (sentence_outcome answer)
 
-right : (s : List ℕ) {answer : SentenceAnswer} → Answers s 0 remarks answer → Answered s answer
+right : (s : List ℕ) {answer : Result Remark Refusal} → Answers s 0 remarks answer → Answered s answer
 right s {answer} e = said_outcome sentence_outcome (ReadsAs s) answer (subst (ReadsAs s) (sym e) (reads_as_lem s))
 
-pub empty_right : (s : List ℕ) {answer : SentenceAnswer} → length s ≡ 0 → answer ≡ answer_of (Stuck 0) → Answered s answer
+pub empty_right : (s : List ℕ) {answer : Result Remark Refusal} → length s ≡ 0 → answer ≡ answer_of (Stuck 0) → Answered s answer
 unfolding remarks text read_by
 empty_right [] none a = right [] a
 empty_right (c ∷ s) none a = absurd (omega arith)
 
-module _ (s : List ℕ) (some : 0 < length s) {answer : SentenceAnswer} where
+module _ (s : List ℕ) (some : 0 < length s) {answer : Result Remark Refusal} where
   -- The bytes of R, E, O and N.
   pub refusal_right : get_or s 0 0 ≡ 82 → Answers s 0 (texts refusing (value 1 last_refusal after_number)) answer → Answered s answer
   unfolding remarks text
@@ -68,3 +70,6 @@ module _ (s : List ℕ) (some : 0 < length s) {answer : SentenceAnswer} where
   pub none_right : (get_or s 0 0 ≡ 82 → ⊥) → (get_or s 0 0 ≡ 69 → ⊥) → (get_or s 0 0 ≡ 79 → ⊥) → (get_or s 0 0 ≡ 78 → ⊥) → answer ≡ answer_of (Stuck 0) → Answered s answer
   unfolding text read_by
   none_right n m k l a = last_right n m k (opens_otherwise never (done (Explained Never)) dead s (omega arith) some l a)
+
+-- `read_sentence` goes by these.
+pub ruleset openings = (empty_right, refusal_right, visit_right, first_right, never_right, none_right)

@@ -1,5 +1,7 @@
 -- The worked sentences and texts, computed from the definitions.
 use Prim.Native.Nat.{ℕ}
+use Rattle.std.specs.Prelude.{Err, Ok, Result}
+use Rattle.model.specs.declared.Refusal.{Refusal}
 use Prim.Native.String.{String}
 use mathlib.Core.Path.{◌≡◌, refl, subst}
 use mathlib.Core.List.{List, [], ◌∷◌}
@@ -7,8 +9,6 @@ use Rattle.model.specs.declared.Refusal.TheVariants.{OutOfRange, ScratchpadTooSm
 use Rattle.model.specs.declared.Reason.TheVariants.{EveryVisit, FirstLoad, Never}
 use Rattle.model.specs.declared.Remark.{Remark}
 use Rattle.model.specs.declared.Remark.TheVariants as remark
-use Rattle.model.specs.declared.SentenceAnswer.{SentenceAnswer}
-use Rattle.model.specs.declared.SentenceAnswer.TheVariants as read
 use Rattle.model.specs.Decimals.{text, digits_of, decimal}
 use Rattle.model.specs.Sentences.{phrases, phrase, sentence, most_place, ReadsAs}
 use Rattle.grammar.specs.Numerals.{opens, fits, digits, numeral}
@@ -27,13 +27,13 @@ visit_worded = refl
 -- A text with its answer. (`Refused 23` is 22 at 9 as long as 22 is the last number.)
 pub record Case : Type 0 where
   pub said : String
-  pub answer : SentenceAnswer
+  pub answer : Result Remark Refusal
 
 abbrev meant : String → Remark → Case
-meant s r = record { said = s; answer = read.Meant r }
+meant s r = record { said = s; answer = Ok r }
 
 abbrev at : String → ℕ → Case
-at s k = record { said = s; answer = read.Refused (NoSentence k) }
+at s k = record { said = s; answer = Err (NoSentence k) }
 
 abbrev pub cases : List Case
 cases =
@@ -61,11 +61,11 @@ Right [] = Unit {0}
 Right (c ∷ rest) = ReadsAs (text c.said) c.answer × Right rest
 
 -- What reading gives for each, at once.
-abbrev answers : List Case → List SentenceAnswer
+abbrev answers : List Case → List (Result Remark Refusal)
 answers [] = []
 answers (c ∷ rest) = c.answer ∷ answers rest
 
-abbrev given : List Case → List SentenceAnswer
+abbrev given : List Case → List (Result Remark Refusal)
 given [] = []
 given (c ∷ rest) = answer_of (read_by remarks (text c.said) 0) ∷ given rest
 

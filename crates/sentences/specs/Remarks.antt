@@ -1,19 +1,14 @@
 -- The sentences as a grammar, by which they are read.
-use Rattle.std.specs.Prelude.{ℕ, ◌-◌, cond, List, leb}
-use Rattle.model.specs.declared.Refusal.TheVariants.{OutOfRange, NoSentence}
-use Rattle.model.specs.declared.Verdict.{Verdict}
-use Rattle.model.specs.declared.Verdict.TheVariants as verdict
+use Rattle.std.specs.Prelude.{ℕ, ◌-◌, List, Err, Ok, Result}
+use Rattle.model.specs.declared.Refusal.{Refusal}
+use Rattle.model.specs.declared.Refusal.TheVariants.{NoSentence}
 use Rattle.model.specs.declared.Reason.TheVariants.{EveryVisit, FirstLoad, Never}
 use Rattle.model.specs.declared.Remark.{Remark}
 use Rattle.model.specs.declared.Remark.TheVariants as remark
-use Rattle.model.specs.declared.SentenceAnswer.{SentenceAnswer}
-use Rattle.model.specs.declared.SentenceAnswer.TheVariants as read
 use Rattle.model.specs.Refusals.{last_refusal, refusal_of}
 use Rattle.model.specs.Places.{most_functions}
 use Rattle.model.specs.Decimals.{text}
 use Rattle.model.specs.Sentences.{phrase, most_place}
-use Rattle.pieces.specs.declared.Words.{Words}
-use Rattle.pieces.specs.declared.Words.TheVariants.{Passed, Stopped}
 use Rattle.grammar.specs.Grammar.{Grammar, dead, done, value, texts, either, Out, Meant, Stuck}
 
 -- How sentences open, or whole ones.
@@ -54,15 +49,6 @@ unfoldable pub remarks : Grammar Remark
 remarks = either refusing (value 1 last_refusal after_number) reasons
 
 -- What is answered: what a text means, or 22 at the byte where reading stops.
-abbrev pub answer_of : Out Remark → SentenceAnswer
-answer_of (Meant r) = read.Meant r
-answer_of (Stuck k) = read.Refused (NoSentence k)
-
--- How far words went.
-abbrev pub stop_of : Words → ℕ
-stop_of (Passed at) = at
-stop_of (Stopped at) = at
-
--- Word's check of a refusal's place.
-abbrev pub judge_place : ℕ → Verdict
-judge_place at = cond (leb at most_place) verdict.Accepted (verdict.Refused (OutOfRange 0))
+abbrev pub answer_of : Out Remark → Result Remark Refusal
+answer_of (Meant r) = Ok r
+answer_of (Stuck k) = Err (NoSentence k)

@@ -2,80 +2,53 @@
 #![tactic(auto)]
 
 ghost use Rattle.std.specs.Prelude.{◌≡◌, length};
-ghost use Rattle.model.specs.declared.Remark.TheVariants.{Explained};
 ghost use Rattle.model.specs.Sentences.{judge_remark, judge_room, word_remark, worded_buffer, ReadsAs};
 ghost use Rattle.model.specs.Outcomes.{word_outcome, word_says, sentence_outcome, Understood};
-ghost use Rattle.sentences.specs.Remarks.{judge_place};
 
-use model::{Reason, Refusal, Remark, SentenceAnswer, Verdict, WordAnswer, limits, places};
+use model::{Reason, Refusal, Remark, limits, places};
 
 mod reading;
 
-// No place of 64 bits is out of range.
-fn judge_place(place: u64) -> Verdict
-    ensures { result ≡ judge_place place }
-{
-    Verdict::Accepted
-}
-
-// 3: a reason that names a function above 31.
-fn judge_reason(reason: Reason) -> Verdict
-    ensures { result ≡ judge_remark (Explained reason) }
-{
-    match reason {
-        Reason::EveryVisit(function) => {
-            if function < places::MOST_FUNCTIONS {
-                return Verdict::Accepted;
-            }
-            Verdict::Refused(Refusal::OutOfRange(0))
-        }
-        Reason::FirstLoad => Verdict::Accepted,
-        Reason::Never => Verdict::Accepted,
-    }
-}
-
-fn judge_remark(remark: Remark) -> Verdict
+// 3: a reason that names a function above 31. No place of 64 bits is out of range.
+fn judge_remark(remark: Remark) -> Result<(), Refusal>
     ensures { result ≡ judge_remark remark }
 {
     match remark {
-        Remark::Refused(refusal) => judge_place(model::place_of(refusal)),
-        Remark::Explained(reason) => judge_reason(reason),
+        Remark::Explained(Reason::EveryVisit(function)) if places::MOST_FUNCTIONS <= function =>
+            Err(Refusal::OutOfRange(0)),
+        _ => Ok(()),
     }
 }
 
 // 10: a text buffer that is too short.
-fn judge_room(need: usize, room: usize) -> Verdict
+fn judge_room(need: usize, room: usize) -> Result<(), Refusal>
     ensures { result ≡ judge_room need room }
 {
     if room < need {
-        return Verdict::Refused(Refusal::BufferTooShort(need as u64));
+        return Err(Refusal::BufferTooShort(need as u64));
     }
-    Verdict::Accepted
+    Ok(())
 }
 
 // **Word.** Writes the sentence at the front of the buffer, or refuses and leaves the buffer as it is. The sentence is made first, since 10 tells its length.
-pub fn word(remark: Remark, text: &mut [u8]) -> WordAnswer
+#[tactic(auto, unfolding(model::specs::Sentences::word_remark))]
+pub fn word(remark: Remark, text: &mut [u8]) -> Result<usize, Refusal>
     ensures value { result ≡ word_remark remark (length text.old) }
     ensures text_after { text.new ≡ worded_buffer remark text.old }
     ensures outcome { word_outcome result ≡ word_says remark (length text.old) }
 {
     let mut room = [0u8; limits::MOST_SENTENCE];
     let need = wording::write_remark(remark, &mut room);
-    let said = judge_remark(remark);
-    let fits = judge_room(need, text.len());
-    let Verdict::Accepted = said else {
-        return WordAnswer::Refused(model::refusal_in(said));
-    };
-    let Verdict::Accepted = fits else {
-        return WordAnswer::Refused(model::refusal_in(fits));
-    };
+    judge_remark(remark)?;
+    judge_room(need, text.len())?;
     decimals::write_text(text, 0, &room[..need]);
-    WordAnswer::Worded(need)
+    Ok(need)
 }
 
 // **Read-sentence.** The remark whose sentence the text is, to the last byte; or 22, at the first byte that fits no continuation, or at the length. The first
 // byte tells the opening.
-pub fn read_sentence(text: &[u8]) -> SentenceAnswer
+#[tactic(auto, using(crate::proofs::Openings::openings), unfolding(model::specs::Decimals::text))]
+pub fn read_sentence(text: &[u8]) -> Result<Remark, Refusal>
     ensures reads_as { ReadsAs text.now result }
     ensures understood { Understood text.now (sentence_outcome result) }
 {

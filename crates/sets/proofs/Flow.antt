@@ -1,29 +1,23 @@
--- The flow of the interference sets: each member that a step adds has a walk, and a table that no edge changes holds all that walks show.
-use Prim.Native.Nat.{ℕ, ◌+◌, ◌/◌, ◌%◌, ◌≤◌, ◌<◌}
-use mathlib.Core.Path.{◌≡◌, refl, sym, subst, ◌∙◌}
+-- The flow of the interference sets: a row filled word by word, and that a table that no edge changes holds all that walks show, and no more.
+use Prim.Native.Nat.{ℕ, ◌+◌, ◌≤◌, ◌<◌}
+use mathlib.Core.Path.{◌≡◌, refl, ◌∙◌}
 use mathlib.Core.List.{List}
-use mathlib.Core.Bool.{Bool, false}
-use mathlib.Core.Logic.{◌⊎◌, inl, inr, ⊎_elim, ◌↔◌}
+use mathlib.Core.Logic.{inl, inr, ◌↔◌}
 use native.Mathlib.Omega.{arith}
-use lib.ListN.{length, get_or, set, replicate, length-replicate, length-set}
+use lib.ListN.{set, replicate, length-replicate, length-set}
 use lib.Seq.{get_or-set_same, get_or-set_other}
 use Rattle.model.specs.declared.Edge.{Edge}
 use Rattle.model.specs.declared.Problem.{Problem}
-use Rattle.model.specs.Numbers.{problem_of}
-use Rattle.model.specs.Graph.{edges_of}
 use Rattle.model.specs.Costs.{function_of}
-use Rattle.model.specs.Walks.{EdgeOf, Walk}
-use Rattle.model.specs.Interference.{Interferes}
+use Rattle.model.specs.Walks.{EdgeOf}
 use Rattle.model.specs.Results.{Member}
 use Rattle.model.proofs.Cases.{by_order}
-use Rattle.sound.proofs.Flow.{first, further, complete}
-use Rattle.bits.specs.Words.{Has, RowMember, Sound}
+use Rattle.sound.proofs.Flow.{complete}
+use Rattle.bits.specs.Words.{Has, Sound}
 use Rattle.bits.proofs.Steps.{none_in_cleared}
-use Rattle.flow.specs.Rounds.{Closed, Underway}
-use Rattle.flow.specs.Starts.{from, to}
-use Rattle.flow.proofs.Edges.{is_edge, by_number}
-use Rattle.flow.proofs.Reached.{starts}
-use Rattle.flow.proofs.Visits.{Laws, Visiting, begun}
+use Rattle.flow.specs.Rounds.{Closed}
+use Rattle.flow.proofs.Edges.{by_number}
+use Rattle.sets.specs.Laws.{at_word}
 use Rattle.sets.specs.Sets.{set_words, set_at, Gains, Leaves, InSet, set_flow, SetTable}
 use Rattle.model.specs.Places as places
 
@@ -43,41 +37,11 @@ one_leaving {row = row} {f = f} add small r more = record {
 }
 
 module _ (p : Problem) where
-  at_word : (v f b : ℕ) → f < places.most_functions → InSet p (set_at v f) b ↔ Interferes (function_of p) (EdgeOf p) v f b
-  at_word v f b small =
-      let row : set_at v f / places.most_functions ≡ v = omega arith in
-      let column : set_at v f % places.most_functions ≡ f = omega arith in
-      (λ h. rw (row, column) at h, λ h. rw (row, column) h)
-
-  -- Interference sets, where a walk comes to the start of each edge.
-  module _ (starts : (i : ℕ) → i < length (edges_of p) → (h : List ℕ) × Walk (EdgeOf p) (from p i) h)
-      (i : ℕ) (here : i < length (edges_of p)) (f : ℕ) (small : f < places.most_functions) where
-    -- A member that edge i brings to the set of its end and f.
-    brought : (ws : List ℕ) → Sound (InSet p) ws → (b : ℕ) → Gains ws (from p i) f (function_of p (from p i)) b →
-        Interferes (function_of p) (EdgeOf p) (to p i) f b
-    brought ws sound b (ne, gain) = at gain
-      where
-        at : (b ≡ function_of p (from p i)) ⊎ Has ws (set_at (from p i) f) b → Interferes (function_of p) (EdgeOf p) (to p i) f b
-        at (inl e) =
-            let (h, walk) = starts i here in
-            subst (λ (x : ℕ). Interferes (function_of p) (EdgeOf p) (to p i) f x) (sym e)
-            (first (function_of p) (EdgeOf p) (from p i) (to p i) f h walk (is_edge p i here) ne)
-        at (inr m) =
-            let was = (at_word (from p i) f b small).0 (sound (set_at (from p i) f) b m) in
-            further (function_of p) (EdgeOf p) (from p i) (to p i) f b was (is_edge p i here) ne
-
-  pub set_laws : ((i : ℕ) → i < length (edges_of p) → (h : List ℕ) × Walk (EdgeOf p) (from p i) h) → Laws (set_flow p)
-  set_laws starts = record {
-    apart = λ x v f h lt lt' e. omega arith;
-    local = λ ws after u row f b lt (ne, m). (ne, ⊎_elim inl (λ h. inr (row f b lt h)) m);
-    good = λ ws sound i here f b lt m. (at_word (to p i) f b lt).1 (brought starts i here f lt ws sound b m);
-  }
-
   pub set-table : (after : List ℕ) → p.function_count ≤ places.most_functions → Closed (set_flow p) (replicate set_words 0) after → SetTable p after
   set-table after few closed = record {
     long = closed.long ∙ length-replicate {A = ℕ} set_words 0;
     member = λ v f g _ lt. (
-      λ m. (at_word v f g (omega arith)).0 (closed.sound (set_at v f) g m),
+      λ m. (at_word p v f g (omega arith)).0 (closed.sound (set_at v f) g m),
       λ (other, (h, walk, seen)). complete (function_of p) (EdgeOf p) (λ x y. Has after (set_at x f) y) f (settled f (omega arith)) g walk seen,
     );
   }
@@ -93,10 +57,3 @@ module _ (p : Problem) where
 
   pub set_begun : Sound (InSet p) (replicate set_words 0)
   set_begun k b h = absurd (none_in_cleared set_words k b h)
-
--- A visit to u, of function g, whose edges bring the row's members.
-pub set_visit : {l begins : List ℕ} {u : ℕ} {marks : List Bool} {ws row : List ℕ} → Underway l (set_flow (problem_of l)) begins marks ws →
-    u < (problem_of l).vertex_count → (g : ℕ) → g ≡ function_of (problem_of l) u → Leaves ws u g places.most_functions row →
-    Visiting l (set_flow (problem_of l)) begins (RowMember row) u (get_or begins u 0) (set marks u false) ws (set marks u false) ws false
-set_visit {l} underway there g is_g leaves =
-    begun underway there (set_laws (problem_of l) (starts l underway.checked)) (λ f b lt. (rw is_g at leaves).words f b lt)

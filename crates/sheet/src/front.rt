@@ -7,10 +7,10 @@ ghost use Rattle.model.specs.Operations.{Checked};
 ghost use Rattle.model.specs.Results.{BoundSays};
 ghost use Rattle.sheet.specs.Fronts.{layout_length, Front, FrontOf, FrontRead};
 
-use model::{BoundAnswer, Numbers, Verdict};
+use model::{Bound, Numbers, Refusal};
 
 // Read's verdict; where it accepts, the problem is the one that the numbers say.
-pub fn read(buf: &[u8], n: usize, numbers: &mut Numbers) -> Verdict
+pub fn read(buf: &[u8], n: usize, numbers: &mut Numbers) -> Result<(), Refusal>
     requires fact_1 { Front read_length buf.now n }
     requires fact_2 { numbers.old ≡ replicate number_count 0 }
     ensures { FrontRead buf.now n numbers.new result }
@@ -18,7 +18,7 @@ pub fn read(buf: &[u8], n: usize, numbers: &mut Numbers) -> Verdict
     file::read_numbers(&buf[..n], numbers)
 }
 
-pub fn bound(numbers: &Numbers, buf: &[u8], n: usize) -> BoundAnswer
+pub fn bound(numbers: &Numbers, buf: &[u8], n: usize) -> Result<Bound, Refusal>
     requires fact_1 { Checked numbers.now }
     requires fact_2 { Front layout_length buf.now n }
     ensures { (layout : List ℕ) → FrontOf buf.now n layout → BoundSays (problem_of numbers.now) layout result }

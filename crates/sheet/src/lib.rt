@@ -7,8 +7,7 @@ mod show;
 
 ghost use Rattle.sheet.specs.Fronts.{AcceptedFront};
 
-use fill::BytesRead;
-use model::{Numbers, Verdict, places};
+use model::{Numbers, places};
 pub use show::unreadable;
 use std::io;
 use std::io::Read;
@@ -31,7 +30,7 @@ fn mark_layout(
 {
     let mut layout = [0u8; LAYOUT_ROOM];
     let filled = fill::from_file(rt, path, &mut layout)?;
-    let BytesRead::To(m) = filled else {
+    let Some(m) = filled else {
         return Ok(());
     };
     let answer = front::bound(numbers, &layout, m);
@@ -50,15 +49,14 @@ pub fn mark(
 ) -> io::Result<()> {
     let mut file = [0u8; FILE_ROOM];
     let filled = fill::from_input(rt, input, name, &mut file)?;
-    let BytesRead::To(n) = filled else {
+    let Some(n) = filled else {
         return Ok(());
     };
     let mut numbers = [0u64; places::END];
-    let verdict = front::read(&file, n, &mut numbers);
-    let Verdict::Accepted = verdict else {
+    if let Err(refusal) = front::read(&file, n, &mut numbers) {
         let mut slip = [0u8; slips::ROOM];
-        let size = slips::refused(model::refusal_in(verdict), &mut slip);
+        let size = slips::refused(refusal, &mut slip);
         return show::print(rt, &file, n, b"", 0, &slip, size);
-    };
+    }
     mark_layout(rt, &file, n, &numbers, path)
 }

@@ -1,3 +1,4 @@
 pub mod Pairs
 pub mod Costs
 pub mod Visits
+pub mod Few

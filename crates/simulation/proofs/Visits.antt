@@ -3,7 +3,7 @@ use Prim.Native.Nat.{ℕ, ◌+◌, ◌*◌, ◌^◌, ◌≤◌, ◌<◌}
 use mathlib.Core.Path.{◌≡◌, refl, sym, ap, ap₂, ◌∙◌}
 use mathlib.Core.List.{List, [], ◌∷◌, reverse, reverse_aux}
 use mathlib.Core.Bool.{Bool, true, false, cond}
-use mathlib.Core.Option.{Option, some, none}
+use Rattle.std.specs.Prelude.{Option, Some, None}
 use native.Mathlib.Omega.{arith}
 use native.Mathlib.Numerals.{add-one}
 use lib.ListN.{length, get_or, set, drop, replicate, length-set, length-replicate, get_or-replicate, drop_of_length-le}
@@ -39,8 +39,8 @@ check_told p v f fn_is few (u ∷ h) = ap (λ (x : ℕ). cond (eqb (function_of 
 module _ (p : Problem) (layout h : List ℕ) (v f r : ℕ) (fn_is : function_of p v ≡ f) (region_is : region_of layout (function_of p v) ≡ r)
     (few : f < most_functions) (inside : r < limits.most_regions) where
   told_held : (x : Option ℕ) → eqb (held_number p layout x) f ≡ is_held (function_of p) (region_of layout) x f
-  told_held none = ne_eqb (held_number p layout none) f (λ e. omega arith)
-  told_held (some g) = refl
+  told_held None = ne_eqb (held_number p layout None) f (λ e. omega arith)
+  told_held (Some g) = refl
 
   hit_is : hit (function_of p) (region_of layout) v h ≡ eqb (held_after p layout h r) f
   unfolding held_after
@@ -210,7 +210,7 @@ pub record Running (p : Problem) (layout walk : List ℕ) (i : ℕ) (held : List
 module _ (p : Problem) (layout : List ℕ) where
   -- Every region is empty.
   abbrev nothing : List ℕ
-  nothing = replicate limits.most_regions (held_number p layout none)
+  nothing = replicate limits.most_regions (held_number p layout None)
 
   empty : Ran p layout [] nothing (record { cycles = cycles_of 0; loads = 0 })
   unfolding cycles loads held_after held
@@ -219,8 +219,8 @@ module _ (p : Problem) (layout : List ℕ) where
         cycles_are = refl;
         loads_are = refl;
         held_are =
-            is_table limits.most_regions (held_after p layout []) 0 nothing (length-replicate {A = ℕ} limits.most_regions (held_number p layout none))
-            (λ k q. get_or-replicate {A = ℕ} limits.most_regions k (held_number p layout none) 0 q);
+            is_table limits.most_regions (held_after p layout []) 0 nothing (length-replicate {A = ℕ} limits.most_regions (held_number p layout None))
+            (λ k q. get_or-replicate {A = ℕ} limits.most_regions k (held_number p layout None) 0 q);
       }
 
   module _ (walk : List ℕ) where

@@ -1,8 +1,7 @@
 -- What running a walk keeps: the cycles, the loads, the function held in each region and the latest function, after a history.
-use Rattle.std.specs.Prelude.{ℕ, ◌+◌, ◌*◌, ◌^◌, ◌≤◌, ◌<◌, ◌≡◌, List, [], ◌∷◌, Bool, cond, length, get_or, set, eqb}
+use Rattle.std.specs.Prelude.{ℕ, ◌+◌, ◌*◌, ◌^◌, ◌≤◌, ◌<◌, ◌≡◌, List, [], ◌∷◌, Bool, cond, length, get_or, set, eqb, Ok}
 use Rattle.model.specs.declared.Problem.{Problem}
 use Rattle.model.specs.declared.Run.{Run}
-use Rattle.model.specs.declared.Verdict.TheVariants.{Accepted}
 use Rattle.model.specs.Numbers.{table, problem_of}
 use Rattle.model.specs.Operations.{Checked}
 use Rattle.model.specs.Costs.{function_of, own_cost, load_cost, check_cost}
@@ -82,4 +81,4 @@ pub record Runnable (l layout walk : List ℕ) : Type 0 where
   pub checked : Checked l
   pub regions : KnownRegions (problem_of l) layout
   pub short : length walk ≤ walk_limit
-  pub accepted : judge_walk (problem_of l) [] 0 walk ≡ Accepted
+  pub accepted : judge_walk (problem_of l) [] 0 walk ≡ Ok tt

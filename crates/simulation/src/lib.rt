@@ -9,7 +9,7 @@ ghost use Rattle.model.specs.Operations.{Checked};
 ghost use Rattle.regions.specs.Regions.{ListsAll};
 ghost use Rattle.simulation.specs.Running.{Places, Costs, cost_place, Visiting, Visited, Ran, Runnable};
 
-use model::{Cycles, Numbers, Run, limits, places, units};
+use model::{Cycles, Numbers, Run, limits, places};
 
 // Two places a vertex.
 const PAIR_COUNT: usize = 2 * places::MOST_VERTICES;
@@ -24,6 +24,7 @@ pub type Regions = [u8; limits::MOST_REGIONS];
 const NONE: u8 = 255;
 
 // The function of each vertex and the region of that.
+#[tactic(auto, using(crate::proofs::Few::few_cycles))]
 fn place_table(l: &Numbers, layout: &[u8]) -> [usize; PAIR_COUNT]
     requires fact_1 { Checked l.now }
     requires fact_2 { ListsAll (problem_of l.now) layout.now }
@@ -31,37 +32,34 @@ fn place_table(l: &Numbers, layout: &[u8]) -> [usize; PAIR_COUNT]
 {
     let mut table = [0usize; PAIR_COUNT];
     let count = lookup::vertex_count(l);
-    let mut v: usize = 0;
-    while v < count {
+    for v in 0..count {
         let f = lookup::function_of(l, v);
         table[2 * v] = f;
         table[2 * v + 1] = regions::region_of(layout, f);
-        v += 1;
     }
     table
 }
 
 // The cost of a visit to each vertex: by itself, with a load, with a region check, and with both.
+#[tactic(auto, using(crate::proofs::Few::few_cycles))]
 fn cost_table(l: &Numbers) -> [u64; COST_COUNT]
     requires { Checked l.now }
     ensures { Costs (problem_of l.now) result }
 {
     let mut table = [0u64; COST_COUNT];
     let count = lookup::vertex_count(l);
-    let mut v: usize = 0;
-    while v < count {
+    for v in 0..count {
         let own = lookup::own_cost(l, v);
         let f = lookup::function_of(l, v);
         let load = lookup::load_of(l, f);
         let check = lookup::check_of(l, f);
-        let loaded = units::sum_of_cycles(own, load);
-        let checked = units::sum_of_cycles(own, check);
-        let both = units::sum_of_cycles(checked, load);
+        let loaded = own + load;
+        let checked = own + check;
+        let both = checked + load;
         table[4 * v] = own.0;
         table[4 * v + 1] = loaded.0;
         table[4 * v + 2] = checked.0;
         table[4 * v + 3] = both.0;
-        v += 1;
     }
     table
 }
@@ -71,10 +69,7 @@ fn cost_table(l: &Numbers) -> [u64; COST_COUNT]
 fn one_unless_same(found: u8, function: u8) -> usize
     ensures { result ≡ cond (eqb found function) 0 1 }
 {
-    if found == function {
-        return 0;
-    }
-    1
+    usize::from(found != function)
 }
 
 // The cost of a visit with that many region checks and loads. They tell the place, so that no branch asks for them.
@@ -103,7 +98,7 @@ fn visit(
     let loads = one_unless_same(held[region], function);
     *latest = function;
     held[region] = function;
-    let cycles = units::sum_of_cycles(run.cycles, cost_of_visit(costs, v, checks, loads));
+    let cycles = run.cycles + cost_of_visit(costs, v, checks, loads);
     Run {
         cycles: cycles,
         loads: run.loads + loads as u64,
@@ -123,11 +118,8 @@ pub fn simulate(l: &Numbers, layout: &[u8], walk: &[u32], held: &mut Regions) ->
         loads: 0,
     };
     let mut latest: u8 = NONE;
-    let mut i: usize = 0;
-    while i < walk.len() {
-        let v = walk[i] as usize;
-        run = visit(&places, &costs, held, &mut latest, run, v);
-        i += 1;
+    for entry in walk {
+        run = visit(&places, &costs, held, &mut latest, run, *entry as usize);
     }
     run
 }

@@ -1,9 +1,10 @@
 -- A refusal's line in its two parts, and the slip of an answer that is known.
 use Prim.Native.Nat.{ℕ}
+use Rattle.std.specs.Prelude.{Result}
+use Rattle.model.specs.declared.Bound.{Bound}
 use mathlib.Core.Path.{◌≡◌, sym, subst}
 use mathlib.Core.List.{List, ◌++◌}
 use Rattle.model.specs.declared.Refusal.{Refusal}
-use Rattle.model.specs.declared.BoundAnswer.{BoundAnswer}
 use Rattle.model.specs.Refusals.{number, place}
 use Rattle.model.specs.Decimals.{text, decimal}
 use Rattle.model.specs.Slips.{line, refusal_line, bound_slip}
@@ -15,5 +16,5 @@ pub refusal_written : {b c d : List ℕ} {next end : ℕ} (f : Refusal) (n at : 
 unfolding refusal_line
 refusal_written f n at e q v w = rw (e, q) at (written_both v w)
 
-pub slip_written : {b c : List ℕ} {next : ℕ} (a known : BoundAnswer) → a ≡ known → Written b 0 (bound_slip known) c next → Written b 0 (bound_slip a) c next
-slip_written {b} {c} {next} a known e w = subst (λ (x : BoundAnswer). Written b 0 (bound_slip x) c next) (sym e) w
+pub slip_written : {b c : List ℕ} {next : ℕ} (a known : Result Bound Refusal) → a ≡ known → Written b 0 (bound_slip known) c next → Written b 0 (bound_slip a) c next
+slip_written {b} {c} {next} a known e w = subst (λ (x : Result Bound Refusal). Written b 0 (bound_slip x) c next) (sym e) w

@@ -7,7 +7,7 @@ ghost use Rattle.model.specs.Slips.{refusal_line, result_lines, bound_slip};
 ghost use Rattle.decimals.specs.Digits.{most_digits};
 ghost use Rattle.decimals.specs.Written.{Written};
 
-use model::{Bound, BoundAnswer, Refusal};
+use model::{Bound, Refusal};
 
 // A label has at most so many bytes.
 const LABEL_ROOM: usize = 8;
@@ -32,8 +32,8 @@ fn write_line(buf: &mut [u8], at: usize, label: &[u8], n: u64, end: &[u8]) -> us
 pub fn refused(refusal: Refusal, slip: &mut Slip) -> usize
     ensures { Written slip.old 0 (refusal_line refusal) slip.new result }
 {
-    let number = model::number_of(refusal) as u64;
-    let place = model::place_of(refusal);
+    let number = refusal.number() as u64;
+    let place = refusal.place();
     let behind = decimals::write_labelled(slip, 0, b"refused ", number);
     write_line(slip, behind, b" at ", place, b"\n")
 }
@@ -49,11 +49,11 @@ fn results(b: Bound, slip: &mut Slip) -> usize
 }
 
 // The slip of what Bound answers.
-pub fn bounded(answer: BoundAnswer, slip: &mut Slip) -> usize
+pub fn bounded(answer: Result<Bound, Refusal>, slip: &mut Slip) -> usize
     ensures { Written slip.old 0 (bound_slip answer) slip.new result }
 {
     match answer {
-        BoundAnswer::Refused(refusal) => refused(refusal, slip),
-        BoundAnswer::Bounded(b) => results(b, slip),
+        Err(refusal) => refused(refusal, slip),
+        Ok(b) => results(b, slip),
     }
 }

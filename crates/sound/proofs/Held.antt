@@ -5,7 +5,7 @@ use mathlib.Core.Path.{◌≡◌, refl, sym, ap, ◌∙◌, subst}
 use mathlib.Core.Bool.{Bool, true, false, cond}
 use mathlib.Core.List.Memᴰ
 use mathlib.Core.List.{List, [], ◌∷◌, Memᴰ}
-use mathlib.Core.Option.{some, none}
+use Rattle.std.specs.Prelude.{Some, None}
 use mathlib.Core.Logic.{◌⊎◌, inl, inr, ◌↔◌}
 use native.Mathlib.Omega.{arith}
 use lib.Dec.{eqb}
@@ -16,36 +16,36 @@ use Rattle.model.specs.Runs.{held, is_held}
 use Rattle.sound.specs.Held.{Holds}
 use Rattle.sound.proofs.Flow.{since_cases, occurs_cases}
 
-same_held : {f g : ℕ} → some f ≡ some g → f ≡ g
+same_held : {f g : ℕ} → Some f ≡ Some g → f ≡ g
 same_held e = cc
 
-never_held : {g : ℕ} → none ≡ some g → ⊥
+never_held : {g : ℕ} → None ≡ Some g → ⊥
 never_held {g} e = let z : ◌≡◌ {A = ℕ} 0 1 = cc in omega arith
 
 module _ (fn region : ℕ → ℕ) where
   -- What a region holds is the latest of its functions: after a visit to u it is u's function, or what was held before.
   held_cases :
-      (r g u : ℕ) (h : List ℕ) → held fn region r (u ∷ h) ≡ some g →
-      ((region (fn u) ≡ r) × (fn u ≡ g)) ⊎ ((region (fn u) ≡ r → ⊥) × (held fn region r h ≡ some g))
+      (r g u : ℕ) (h : List ℕ) → held fn region r (u ∷ h) ≡ Some g →
+      ((region (fn u) ≡ r) × (fn u ≡ g)) ⊎ ((region (fn u) ≡ r → ⊥) × (held fn region r h ≡ Some g))
   unfolding held
   held_cases r g u h e = at (eqb (region (fn u)) r) refl e
     where
-      at : (b : Bool) → eqb (region (fn u)) r ≡ b → cond b (some (fn u)) (held fn region r h) ≡ some g →
-          ((region (fn u) ≡ r) × (fn u ≡ g)) ⊎ ((region (fn u) ≡ r → ⊥) × (held fn region r h ≡ some g))
+      at : (b : Bool) → eqb (region (fn u)) r ≡ b → cond b (Some (fn u)) (held fn region r h) ≡ Some g →
+          ((region (fn u) ≡ r) × (fn u ≡ g)) ⊎ ((region (fn u) ≡ r → ⊥) × (held fn region r h ≡ Some g))
       at true q x = inl (eqb-true (region (fn u)) r q, same_held x)
       at false q x = inr (eqb-false (region (fn u)) r q, x)
 
   -- Another function that is held in the region of f was visited since f.
   held_since :
-      (f g : ℕ) (h : List ℕ) → (g ≡ f → ⊥) → held fn region (region f) h ≡ some g →
+      (f g : ℕ) (h : List ℕ) → (g ≡ f → ⊥) → held fn region (region f) h ≡ Some g →
       Memᴰ g (since fn f h) × (region g ≡ region f)
   unfolding since held
   held_since f g [] ne e = absurd (never_held e)
   held_since f g (u ∷ h) ne e = at (held_cases (region f) g u h e) (λ x. held_since f g h ne x)
     where
       at :
-          ((region (fn u) ≡ region f) × (fn u ≡ g)) ⊎ ((region (fn u) ≡ region f → ⊥) × (held fn region (region f) h ≡ some g)) →
-          (held fn region (region f) h ≡ some g → Memᴰ g (since fn f h) × (region g ≡ region f)) →
+          ((region (fn u) ≡ region f) × (fn u ≡ g)) ⊎ ((region (fn u) ≡ region f → ⊥) × (held fn region (region f) h ≡ Some g)) →
+          (held fn region (region f) h ≡ Some g → Memᴰ g (since fn f h) × (region g ≡ region f)) →
           Memᴰ g (since fn f (u ∷ h)) × (region g ≡ region f)
       at (inl (same, is)) ih = (rw (ne_eqb (fn u) f (λ q. ne (sym is ∙ q))) (Memᴰ.head (sym is)), ap region (sym is) ∙ same)
       at (inr (other, x)) ih = let (m, same) = ih x in (rw (ne_eqb (fn u) f (λ q. other (ap region q))) (Memᴰ.tail m), same)
@@ -53,15 +53,15 @@ module _ (fn region : ℕ → ℕ) where
   -- Where a function of the region was visited since f, another one than f is held.
   pub since_held :
       (f g : ℕ) (h : List ℕ) → region g ≡ region f → Memᴰ g (since fn f h) →
-      (x : ℕ) × (x ≡ f → ⊥) × (held fn region (region f) h ≡ some x)
+      (x : ℕ) × (x ≡ f → ⊥) × (held fn region (region f) h ≡ Some x)
   unfolding since held
   since_held f g [] same m = absurd (Memᴰ.not-nil m)
   since_held f g (u ∷ h) same m = let (ne, i) = since_cases fn f g u h m in at (eqb (region (fn u)) (region f)) refl ne i (λ j. since_held f g h same j)
     where
       at :
           (b : Bool) → eqb (region (fn u)) (region f) ≡ b → (fn u ≡ f → ⊥) → (g ≡ fn u) ⊎ Memᴰ g (since fn f h) →
-          (Memᴰ g (since fn f h) → (x : ℕ) × (x ≡ f → ⊥) × (held fn region (region f) h ≡ some x)) →
-          (x : ℕ) × (x ≡ f → ⊥) × (cond b (some (fn u)) (held fn region (region f) h) ≡ some x)
+          (Memᴰ g (since fn f h) → (x : ℕ) × (x ≡ f → ⊥) × (held fn region (region f) h ≡ Some x)) →
+          (x : ℕ) × (x ≡ f → ⊥) × (cond b (Some (fn u)) (held fn region (region f) h) ≡ Some x)
       at true q ne i ih = (fn u, ne, refl)
       at false q ne (inl e) ih = absurd (eqb-false (region (fn u)) (region f) q (ap region (sym e) ∙ same))
       at false q ne (inr j) ih = ih j
@@ -74,7 +74,7 @@ module _ (fn region : ℕ → ℕ) where
     where
       at :
           (b : Bool) → (fn u ≡ f → ⊥) → is_held fn region (held fn region r h) f ≡ false →
-          is_held fn region (cond b (some (fn u)) (held fn region r h)) f ≡ false
+          is_held fn region (cond b (Some (fn u)) (held fn region r h)) f ≡ false
       at true ne ih = ne_eqb (fn u) f ne
       at false ne ih = ih
 
@@ -85,9 +85,9 @@ module _ (fn region : ℕ → ℕ) where
       λ (g, (ne, (h, t, m)), same).
           let (x, other, e) = since_held (fn v) g h same m in
           let alike = (held_since (fn v) x h other e).1 in
-          (x, other, alike, (h, t, subst (λ (r : ℕ). held fn region r h ≡ some x) (sym alike) e)),
+          (x, other, alike, (h, t, subst (λ (r : ℕ). held fn region r h ≡ Some x) (sym alike) e)),
       λ (g, ne, alike, (h, t, e)).
-          let (m, same) = held_since (fn v) g h ne (subst (λ (r : ℕ). held fn region r h ≡ some g) alike e) in
+          let (m, same) = held_since (fn v) g h ne (subst (λ (r : ℕ). held fn region r h ≡ Some g) alike e) in
           (g, (ne, (h, t, m)), same),
     )
 
@@ -105,14 +105,14 @@ module _ (fn region : ℕ → ℕ) where
     pub held_complete :
         (M : ℕ → ℕ → Type 0) →
         ((u v : ℕ) → Edge u v → M v (fn u) × ((g : ℕ) → (region (fn u) ≡ region g → ⊥) → M u g → M v g)) →
-        {v : ℕ} {h : List ℕ} (g : ℕ) → Walk Edge v h → held fn region (region g) h ≡ some g → M v g
+        {v : ℕ} {h : List ℕ} (g : ℕ) → Walk Edge v h → held fn region (region g) h ≡ Some g → M v g
     unfolding held
     held_complete M closed g start e = absurd (never_held e)
     held_complete M closed g (step {u} {v} {h} t d) e = at (held_cases (region g) g u h e) (closed u v d) (λ x. held_complete M closed g t x)
       where
         at :
-            ((region (fn u) ≡ region g) × (fn u ≡ g)) ⊎ ((region (fn u) ≡ region g → ⊥) × (held fn region (region g) h ≡ some g)) →
+            ((region (fn u) ≡ region g) × (fn u ≡ g)) ⊎ ((region (fn u) ≡ region g → ⊥) × (held fn region (region g) h ≡ Some g)) →
             M v (fn u) × ((g : ℕ) → (region (fn u) ≡ region g → ⊥) → M u g → M v g) →
-            (held fn region (region g) h ≡ some g → M u g) → M v g
+            (held fn region (region g) h ≡ Some g → M u g) → M v g
         at (inl (same, is)) gain ih = subst (M v) is gain.0
         at (inr (other, x)) gain ih = gain.1 g other (ih x)

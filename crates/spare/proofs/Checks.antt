@@ -1,16 +1,14 @@
 -- The checks of every operation say the same of records that are the same but for spare places, and Write writes the same.
 use Prim.Native.Nat.{ℕ}
+use Rattle.std.specs.Prelude.{Err, Ok, Result}
+use Rattle.model.specs.declared.Refusal.{Refusal}
 use mathlib.Core.Path.{◌≡◌, refl, ap, ◌∙◌}
 use mathlib.Core.List.{List, []}
 use mathlib.Core.Bool.{cond}
 use lib.ListN.{length}
 use lib.Seq.{sets}
-use Rattle.model.specs.declared.FieldsAnswer.{FieldsAnswer}
-use Rattle.model.specs.declared.FieldsAnswer.TheVariants.{Done, Refused}
 use Rattle.model.specs.declared.Function.{Function}
 use Rattle.model.specs.declared.Problem.{Problem}
-use Rattle.model.specs.declared.WriteAnswer.{WriteAnswer}
-use Rattle.model.specs.declared.WriteAnswer.TheVariants as write
 use Rattle.model.specs.Limits.{first_edition, second_edition}
 use Rattle.model.specs.Numbers.{some_check, edition_of, numbers_in, numbers_of, problem_of, Sized}
 use Rattle.model.specs.File.{edition_in, check_fields, file_bytes}
@@ -46,25 +44,25 @@ module _ (p q : Problem) (sized : Sized p) (sized' : Sized q) (same : SameProble
   unfolding check_problem
   same_checks = rw same_fields (at (check_fields (numbers_of q)))
     where
-      at : (a : FieldsAnswer) → after_fields a p ≡ after_fields a q
-      at (Done need) = rw (same_judged same)
-      at (Refused f) = refl
+      at : (a : Result ℕ Refusal) → after_fields a p ≡ after_fields a q
+      at (Ok need) = rw (same_judged same)
+      at (Err f) = refl
 
   pub same_write : (room : ℕ) → write_problem p room ≡ write_problem q room
   unfolding write_problem
-  same_write room = ap (λ (a : FieldsAnswer). write_checked a room) same_checks
+  same_write room = ap (λ (a : Result ℕ Refusal). write_checked a room) same_checks
 
-  pub same_file : (need : ℕ) → check_problem p ≡ Done need → file_bytes (numbers_of p) ≡ file_bytes (numbers_of q)
+  pub same_file : (need : ℕ) → check_problem p ≡ Ok need → file_bytes (numbers_of p) ≡ file_bytes (numbers_of q)
   same_file need ok =
       files_agree (numbers_of p) (numbers_of q) (numbers_length (edition_of q) q sized') one numbered need (good_problem p need ok).fields
 
   pub same_buffer : (buf : List ℕ) → written_buffer p buf ≡ written_buffer q buf
   same_buffer buf =
-      at (write_problem p (length buf)) refl ∙ ap (λ (a : WriteAnswer). after_write a q buf) (same_write (length buf))
+      at (write_problem p (length buf)) refl ∙ ap (λ (a : Result ℕ Refusal). after_write a q buf) (same_write (length buf))
     where
-      at : (a : WriteAnswer) → write_problem p (length buf) ≡ a → after_write a p buf ≡ after_write a q buf
-      at (write.Written n) e = ap (sets buf 0) (same_file n (written_file p buf n e).checked)
-      at (write.Refused f) e = refl
+      at : (a : Result ℕ Refusal) → write_problem p (length buf) ≡ a → after_write a p buf ≡ after_write a q buf
+      at (Ok n) e = ap (sets buf 0) (same_file n (written_file p buf n e).checked)
+      at (Err f) e = refl
 
   pub same_problem : judge_problem p ≡ judge_problem q
   unfolding judge_problem

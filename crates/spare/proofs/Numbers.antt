@@ -1,5 +1,6 @@
 -- The numbers of one problem are judged alike and have the same file, lawful or not, whatever stands in the spare places: no field of a file is one of these.
 use Prim.Native.Nat.{ℕ, zero, suc, ◌+◌, ◌*◌, ◌≤◌, ◌<◌}
+use Rattle.std.specs.Prelude.{Ok}
 use mathlib.Core.Path.{◌≡◌, refl, sym, ap, ap₂, ◌∙◌}
 use mathlib.Core.List.{List, ◌++◌}
 use mathlib.Core.Bool.{true}
@@ -8,7 +9,6 @@ use lib.ListN.{length, get_or, set, take}
 use lib.Seq.{get_or-take, set-get_or}
 use borrow.Author.Tests.{leb-false}
 use Rattle.model.specs.declared.Field.{Field}
-use Rattle.model.specs.declared.FieldsAnswer.TheVariants.{Done}
 use Rattle.model.specs.declared.Function.{Function}
 use Rattle.model.specs.declared.Vertex.{Vertex}
 use Rattle.model.specs.declared.Edge.{Edge}
@@ -162,5 +162,5 @@ module _ (l m : List ℕ) (long : length m ≡ places.end) (one : edition_in l �
       ∙ sym (bytes_on n c m v e (sym (number b h)))
 
   -- Where the checks pass.
-  pub files_agree : (end : ℕ) → check_fields l ≡ Done end → file_bytes l ≡ file_bytes m
+  pub files_agree : (end : ℕ) → check_fields l ≡ Ok end → file_bytes l ≡ file_bytes m
   files_agree end ok = written_alike (checked_good l end ok) first

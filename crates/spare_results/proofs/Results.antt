@@ -1,20 +1,16 @@
 -- What the definitions of Interference, Bound, Run and Eviction say of a problem they say of every record that is the same but for spare places.
 use Prim.Native.Nat.{ℕ, ◌+◌, ◌*◌, ◌≤◌, ◌<◌}
+use Rattle.std.specs.Prelude.{Err, Ok, Result}
+use Rattle.model.specs.Refusals.{Verdict}
+use Rattle.model.specs.declared.Refusal.{Refusal}
+use Rattle.model.specs.declared.Eviction.{Eviction}
 use mathlib.Core.Path.{◌≡◌, refl, sym, ap, ◌∙◌}
 use mathlib.Core.List.{List, [], ◌∷◌, reverse}
 use mathlib.Core.Bool.{Bool, cond}
 use mathlib.Core.Logic.{◌↔◌, inl, inr}
 use lib.ListN.{length, get_or}
-use Rattle.model.specs.declared.Verdict.{Verdict}
-use Rattle.model.specs.declared.Verdict.TheVariants as verdict
 use Rattle.model.specs.declared.Problem.{Problem}
 use Rattle.model.specs.declared.Bound.{Bound}
-use Rattle.model.specs.declared.BoundAnswer.{BoundAnswer}
-use Rattle.model.specs.declared.BoundAnswer.TheVariants as bound
-use Rattle.model.specs.declared.InterferenceAnswer.{InterferenceAnswer}
-use Rattle.model.specs.declared.InterferenceAnswer.TheVariants as interference
-use Rattle.model.specs.declared.RunAnswer.TheVariants as run
-use Rattle.model.specs.declared.EvictionAnswer.{EvictionAnswer}
 use Rattle.model.specs.Zero.{cycles as cycles_of}
 use Rattle.model.specs.Limits.{most_regions}
 use Rattle.model.specs.Numbers.{table, Sized}
@@ -96,40 +92,40 @@ sets_too same {after} sets =
     }
 
 module _ (p q : Problem) (sized : Sized p) (sized' : Sized q) (same : SameProblem p q) where
-  pub interference_says_too : (words after : List ℕ) (r : InterferenceAnswer) → InterferenceSays p words after r → InterferenceSays q words after r
-  interference_says_too words after (interference.Filled count) (good, sets) =
+  pub interference_says_too : (words after : List ℕ) (r : Result ℕ Refusal) → InterferenceSays p words after r → InterferenceSays q words after r
+  interference_says_too words after (Ok count) (good, sets) =
       (sym (same_interference p q sized sized' same (length words)) ∙ good, sets_too same sets)
-  interference_says_too words after (interference.Refused f) (refused, kept) =
+  interference_says_too words after (Err f) (refused, kept) =
       (sym (same_interference p q sized sized' same (length words)) ∙ refused, kept)
 
   module _ (layout : List ℕ) where
     judged : judge_bound q layout ≡ judge_bound p layout
     judged = sym (same_bound p q sized sized' same layout)
 
-    pub bound_says_too : (r : BoundAnswer) → BoundSays p layout r → BoundSays q layout r
-    bound_says_too (bound.Bounded b) (good, is) = (judged ∙ good, bound_too same layout is)
-    bound_says_too (bound.Refused f) (inl refused) = inl (judged ∙ refused)
-    bound_says_too (bound.Refused f) (inr (good, is, past)) = inr (judged ∙ good, is, past_too same layout past)
+    pub bound_says_too : (r : Result Bound Refusal) → BoundSays p layout r → BoundSays q layout r
+    bound_says_too (Ok b) (good, is) = (judged ∙ good, bound_too same layout is)
+    bound_says_too (Err f) (inl refused) = inl (judged ∙ refused)
+    bound_says_too (Err f) (inr (good, is, past)) = inr (judged ∙ good, is, past_too same layout past)
 
     pub same_ran : (walk : List ℕ) → run_walk p layout walk ≡ run_walk q layout walk
     unfolding run_walk
     same_ran walk = rw (same_run p q sized sized' same layout walk) (at (judge_run q layout walk))
       where
         at : (v : Verdict) → run_after v p layout walk ≡ run_after v q layout walk
-        at verdict.Accepted = λ i. run.Ran (record { cycles = cycles_of (same_cycles same layout (reverse walk) i); loads = same_loads same layout (reverse walk) i })
-        at (verdict.Refused f) = refl
+        at (Ok tt) = λ i. Ok (record { cycles = cycles_of (same_cycles same layout (reverse walk) i); loads = same_loads same layout (reverse walk) i })
+        at (Err f) = refl
 
     pub same_regions : (walk regions : List ℕ) → run_regions p layout walk regions ≡ run_regions q layout walk regions
     unfolding run_regions
     same_regions walk regions = rw (same_run p q sized sized' same layout walk) (at (judge_run q layout walk))
       where
         at : (v : Verdict) → regions_after v p layout walk regions ≡ regions_after v q layout walk regions
-        at verdict.Accepted = ap (table most_regions) (same_held same layout (reverse walk))
-        at (verdict.Refused f) = refl
+        at (Ok tt) = ap (table most_regions) (same_held same layout (reverse walk))
+        at (Err f) = refl
 
     eviction_judged : (v : ℕ) → judge_eviction q layout v ≡ judge_eviction p layout v
     unfolding judge_eviction
     eviction_judged v = rw (judged, same.vertex_count)
 
-    pub eviction_says_too : (v : ℕ) (before after : List ℕ) (r : EvictionAnswer) → EvictionSays p layout v before after r → EvictionSays q layout v before after r
+    pub eviction_says_too : (v : ℕ) (before after : List ℕ) (r : Result Eviction Refusal) → EvictionSays p layout v before after r → EvictionSays q layout v before after r
     eviction_says_too v = eviction_alike p q layout layout (same_function same) (same_edge same) refl v (eviction_judged v)

@@ -1,5 +1,8 @@
 -- What the functions' proofs cite: a reading under way, the size of a number, and its bytes stored one by one.
 use Prim.Native.Nat.{ℕ, zero, suc, ◌+◌, ◌-◌, ◌*◌, ◌/◌, ◌%◌, ◌^◌, ◌≤◌, ◌<◌, max}
+use Rattle.std.specs.Prelude.{Err, Ok, Result}
+use Rattle.model.specs.declared.Misread.{Misread}
+use Rattle.model.specs.declared.Misread.TheVariants.{Misspelt}
 use mathlib.Core.Path.{◌≡◌, refl, sym, ap, ◌∙◌}
 use mathlib.Core.List.{List, [], ◌∷◌}
 use mathlib.Core.Bool.{false}
@@ -8,8 +11,6 @@ use native.Mathlib.Nat.{mul-le-mul_right, pow-le-pow_right, pow-succ'}
 use native.Mathlib.Numerals.{add-one}
 use lib.ListN.{length, get_or, set}
 use lib.Seq.{sets}
-use Rattle.model.specs.declared.Number.{Number}
-use Rattle.model.specs.declared.Number.TheVariants.{Value, Misspelt}
 use Rattle.model.specs.Spelling.{Bytes, high_fifth, read_groups, read_number, groups, number_size, number_bytes}
 use Rattle.model.proofs.Cases.{by_less}
 use Rattle.spelling.proofs.Reading.{Reading, reading, is_read}
@@ -26,7 +27,7 @@ group_below b u v h k = omega (arith, mul-le-mul_right {m = b} {n = 127} u (omeg
 
 module _ {s : List ℕ} {at l pos u v : ℕ} (r : Underway s at l pos u v) (go : 0 < l) where
   -- Any turn that the reading takes leads to the number's answer.
-  pub answers : {n : Number} → Reading s (suc (l - 1)) pos u v n → n ≡ read_number s at
+  pub answers : {n : Result (ℕ × ℕ) Misread} → Reading s (suc (l - 1)) pos u v n → n ≡ read_number s at
   answers d = let e : suc (l - 1) ≡ l = omega arith in sym (rw e at (is_read d)) ∙ r.same
 
   pub unit_small : u ≤ 268435456
@@ -48,15 +49,15 @@ module _ {s : List ℕ} {at l pos u v : ℕ} (r : Underway s at l pos u v) (go :
       }
 
 -- After five bytes with their high bit set there is no number.
-pub runs_out : {s : List ℕ} {at l pos u v : ℕ} → Underway s at l pos u v → l ≤ 0 → Misspelt ≡ read_number s at
+pub runs_out : {s : List ℕ} {at l pos u v : ℕ} → Underway s at l pos u v → l ≤ 0 → (Err Misspelt) ≡ read_number s at
 unfolding read_groups
 runs_out {l = l} r h = let e : l ≡ 0 = omega arith in rw e at r.same
 
 -- A byte below 128 is a number.
-pub one_byte : (s : List ℕ) (at : ℕ) → at < length s → get_or s at 0 < 128 → read_number s at ≡ Value (get_or s at 0) (at + 1)
+pub one_byte : (s : List ℕ) (at : ℕ) → at < length s → get_or s at 0 < 128 → read_number s at ≡ Ok ((get_or s at 0), (at + 1))
 one_byte s at h k =
     let same : 0 + get_or s at 0 * 1 ≡ get_or s at 0 = omega arith in
-    is_read (Reading.last h refl k) ∙ ap (λ (v : ℕ). Value v (at + 1)) same
+    is_read (Reading.last h refl k) ∙ ap (λ (v : ℕ). Ok (v, (at + 1))) same
 
 -- What holds of a size follows from the size's range: `n` groups are too few, or the number has but one, and one more is enough.
 pub by_size : (P : ℕ → Type 0) (v : ℕ) →
@@ -93,17 +94,18 @@ groups_bytes (suc (suc n)) v (suc i) = groups_bytes (suc n) (v / 128) i
 pub bytes_length : (v : ℕ) → length (number_bytes v) ≡ number_size v
 bytes_length v = groups_length (number_size v) v
 
--- One more byte stored, and the groups that are left.
-pub write_turn : (l : ℕ) (buf : List ℕ) (at v : ℕ) → 1 < l →
-    sets (set buf at (128 + v % 128)) (at + 1) (groups (l - 1) (v / 128)) ≡ sets buf at (groups l v)
-unfolding groups
-write_turn zero buf at v h = absurd (omega arith)
-write_turn (suc zero) buf at v h = absurd (omega arith)
-write_turn (suc (suc l)) buf at v h = let e : suc (suc l) - 1 ≡ suc l = omega arith in rw (add-one at, e)
+-- All groups, with `last` the place of the last one; one more byte stored, and the groups that are left; and the last one.
+module _ (buf : List ℕ) where
+  pub write_start : (at last v : ℕ) → last + 1 ≡ at + number_size v → sets buf at (groups (suc (last - at)) v) ≡ sets buf at (number_bytes v)
+  write_start at last v e = let s : suc (last - at) ≡ number_size v = omega (arith, size_pos v) in rw s
 
-pub write_last : (l : ℕ) (buf : List ℕ) (at v : ℕ) → l ≡ 1 → set buf at (v % 128) ≡ sets buf at (groups l v)
-unfolding groups
-write_last l buf at v e = rw e
+  pub write_turn : (at last v : ℕ) → at < last → sets (set buf at (128 + v % 128)) (at + 1) (groups (suc (last - (at + 1))) (v / 128)) ≡ sets buf at (groups (suc (last - at)) v)
+  unfolding groups
+  write_turn at last v h = let e : last - at ≡ suc (last - (at + 1)) = omega arith in rw (e, add-one at)
+
+  pub write_last : (at last v : ℕ) → last ≡ at → set buf last (v % 128) ≡ sets buf at (groups (suc (last - at)) v)
+  unfolding groups
+  write_last at last v e = let z : last - at ≡ 0 = omega arith in rw (z, e)
 
 -- 300 is AC 02.
 three_hundred : number_bytes 300 ≡ 172 ∷ 2 ∷ []

@@ -1,5 +1,6 @@
 -- The spellings of a number that are read: its groups, as many as it needs or more, up to five. What is written is the shortest of them.
 use Prim.Native.Nat.{ℕ, zero, suc, ◌+◌, ◌-◌, ◌*◌, ◌/◌, ◌%◌, ◌^◌, ◌≤◌, ◌<◌, max}
+use Rattle.std.specs.Prelude.{Ok}
 use mathlib.Core.Path.{◌≡◌, refl, sym, ap, ◌∙◌}
 use mathlib.Core.List.{List, [], ◌∷◌, ◌++◌}
 use mathlib.Core.Bool.{false}
@@ -9,7 +10,6 @@ use native.Mathlib.Numerals.{add-one}
 use lib.ListN.{length, get_or, drop, length-append}
 use lib.Seq.{get_or-append_seam, append_snoc, drop-cons}
 use borrow.Author.Tests.{lt-ltb, le-ltb, ne_eqb, ltb-false}
-use Rattle.model.specs.declared.Number.TheVariants.{Value}
 use Rattle.model.specs.Spelling.{Bytes, high_fifth, read_groups, read_number, groups, number_size, number_bytes}
 use Rattle.spelling.proofs.Reading.{Reading, reading}
 use Rattle.spelling.proofs.Laws.{by_size, size_pos, size_five}
@@ -43,7 +43,7 @@ seam_below : (pre : List ℕ) (b : ℕ) (rest : List ℕ) → length pre < lengt
 seam_below pre b rest = simp length-append (omega arith)
 
 read_groups_lem : (n l : ℕ) (pre post : List ℕ) (v u w : ℕ) → l ≤ 4 → Spells n l v →
-    read_groups (suc l) (pre ++ (groups (suc n) v ++ post)) (length pre) u w ≡ Value (w + v * u) (length pre + suc n)
+    read_groups (suc l) (pre ++ (groups (suc n) v ++ post)) (length pre) u w ≡ Ok ((w + v * u), (length pre + suc n))
 unfolding read_groups groups
 read_groups_lem zero l pre post v u w room t =
     let m : v % 128 ≡ v = omega arith in
@@ -83,7 +83,7 @@ fits v n =
 
 -- Any spelling of a number in up to five groups is read as the number.
 pub read_padded : (pre post : List ℕ) (v k : ℕ) → v < 4294967296 → number_size v ≤ k → k ≤ 5 →
-    read_number (pre ++ (groups k v ++ post)) (length pre) ≡ Value v (length pre + k)
+    read_number (pre ++ (groups k v ++ post)) (length pre) ≡ Ok (v, (length pre + k))
 read_padded pre post v zero small enough few = absurd (omega (arith, size_pos v))
 read_padded pre post v (suc n) small enough few =
     let one : v * 1 ≡ v = omega arith in
@@ -91,7 +91,7 @@ read_padded pre post v (suc n) small enough few =
     simp (one, none) at (read_groups_lem n 4 pre post v 1 0 (omega arith) (record { few = omega arith; below = fits v n enough small; short = omega arith }))
 
 -- What is written reads back as itself.
-pub round_trip : (pre post : List ℕ) (v : ℕ) → v < 4294967296 → read_number (pre ++ (number_bytes v ++ post)) (length pre) ≡ Value v (length pre + number_size v)
+pub round_trip : (pre post : List ℕ) (v : ℕ) → v < 4294967296 → read_number (pre ++ (number_bytes v ++ post)) (length pre) ≡ Ok (v, (length pre + number_size v))
 round_trip pre post v small = read_padded pre post v (number_size v) small (omega arith) (size_five v)
 
 -- What an accepted spelling was: the bytes that were read are groups of the number.
@@ -143,13 +143,13 @@ pub record Spelling (s : List ℕ) (at v next : ℕ) : Type 0 where
   pub bytes : drop at s ≡ groups size v ++ drop next s
 
 module _ (s : List ℕ) (byte : Bytes s) where
-  spelt : (l : ℕ) {at u w x next : ℕ} → l ≤ 4 → Reading s (suc l) at u w (Value x next) → Spelt l s at u w x next
+  spelt : (l : ℕ) {at u w x next : ℕ} → l ≤ 4 → Reading s (suc l) at u w (Ok (x, next)) → Spelt l s at u w x next
   spelt l {at} {u} {w} room (Reading.last h e k) = spelt_last s l at u w h e k
   spelt zero {at} room (Reading.more h e k r) = absurd (omega (arith, ltb-false 15 (get_or s at 0) e))
   spelt (suc l) {at} {u} {w} {x} {next} room (Reading.more h e k r) =
       spelt_more s l at u w x next (omega arith) h k (byte at) (spelt l (omega arith) r)
 
-  pub spelling : (at v next : ℕ) → read_number s at ≡ Value v next → Spelling s at v next
+  pub spelling : (at v next : ℕ) → read_number s at ≡ Ok (v, next) → Spelling s at v next
   spelling at v next q =
       let r : Spelt 4 s at 1 0 v next = spelt 4 (omega arith) (rw q at (reading 5 s at 1 0)) in
       let is : v ≡ r.v = r.value ∙ omega arith in
@@ -163,7 +163,7 @@ module _ (s : List ℕ) (byte : Bytes s) where
       }
 
   -- The shortest accepted spelling is the one that is written.
-  pub shortest_spelling : (at v next : ℕ) → read_number s at ≡ Value v next → next ≡ at + number_size v → drop at s ≡ number_bytes v ++ drop next s
+  pub shortest_spelling : (at v next : ℕ) → read_number s at ≡ Ok (v, next) → next ≡ at + number_size v → drop at s ≡ number_bytes v ++ drop next s
   shortest_spelling at v next q e =
       let r : Spelling s at v next = spelling at v next q in
       let same : r.size ≡ number_size v = omega (arith, r.ends) in

@@ -5,53 +5,49 @@ ghost use Rattle.std.specs.Prelude.{◌≡◌, ◌+◌, ◌≤◌, ◌<◌, leng
 ghost use Rattle.std.proofs.lemmas.List.Edits.{sets};
 ghost use Rattle.model.specs.Spelling.{high_fifth, read_number, number_size, number_bytes};
 
-use model::Number;
+use model::Misread;
 
 // A fifth byte above 0F.
 fn high_fifth(left: usize, b: u64) -> bool
     ensures { result ≡ high_fifth left b }
 {
-    if left == 0 {
-        return 15 < b;
-    }
-    false
+    left == 0 && 15 < b
 }
 
 // The number at a position, group by group: groups of seven bits, the lowest first. A byte below 128 ends it, also a zero: numbers may be padded.
-fn read_groups(bytes: &[u8], at: usize) -> Number
+#[tactic(auto, using(crate::proofs::Laws::group_small, crate::proofs::Laws::unit_small))]
+fn read_groups(bytes: &[u8], at: usize) -> Result<(u64, usize), Misread>
     ensures { result ≡ read_number bytes.now at }
 {
-    let mut left: usize = 5;
     let mut pos = at;
     let mut unit: u64 = 1;
     let mut value: u64 = 0;
-    while 0 < left {
-        left -= 1;
+    for left in (0..5usize).rev() {
         if bytes.len() <= pos {
-            return Number::Ended;
+            return Err(Misread::Ended);
         }
         let b = bytes[pos] as u64;
         if high_fifth(left, b) {
-            return Number::Misspelt;
+            return Err(Misread::Misspelt);
         }
         if b < 128 {
-            return Number::Value(value + b * unit, pos + 1);
+            return Ok((value + b * unit, pos + 1));
         }
         value += (b - 128) * unit;
         unit *= 128;
         pos += 1;
     }
-    Number::Misspelt
+    Err(Misread::Misspelt)
 }
 
 // The number at a position. Most take one byte, and are read at once.
-pub fn read_number(bytes: &[u8], at: usize) -> Number
+pub fn read_number(bytes: &[u8], at: usize) -> Result<(u64, usize), Misread>
     ensures { result ≡ read_number bytes.now at }
 {
     if at < bytes.len() {
         let b = bytes[at] as u64;
         if b < 128 {
-            return Number::Value(b, at + 1);
+            return Ok((b, at + 1));
         }
     }
     read_groups(bytes, at)
@@ -77,20 +73,18 @@ pub fn number_size(value: u64) -> usize
 }
 
 // Writes a number at a position, and answers the position after it.
+#[tactic(auto, using(crate::proofs::Laws::size_pos))]
 pub fn write_number(buf: &mut [u8], at: usize, value: u64) -> usize
     requires { at + number_size value ≤ length buf.old }
     ensures fact_1 { result ≡ at + number_size value }
     ensures fact_2 { buf.new ≡ sets buf.old at (number_bytes value) }
 {
-    let mut left = number_size(value);
-    let mut pos = at;
+    let last = at + number_size(value) - 1;
     let mut rest = value;
-    while 1 < left {
+    for pos in at..last {
         buf[pos] = (128 + rest % 128) as u8;
         rest /= 128;
-        pos += 1;
-        left -= 1;
     }
-    buf[pos] = (rest % 128) as u8;
-    pos + 1
+    buf[last] = (rest % 128) as u8;
+    last + 1
 }

@@ -23,20 +23,13 @@ pub fn capped_sum(a: Cycles, b: Cycles) -> Cycles
     requires { (a.0 ≤ cap) × (b.0 ≤ cap) }
     ensures { result.0 ≡ min cap (a.0 + b.0) }
 {
-    let sum = a.0 + b.0;
-    if sum < CAP { Cycles(sum) } else { Cycles(CAP) }
+    Cycles((a.0 + b.0).min(CAP))
 }
 
 fn capped_product(times: u64, a: Cycles) -> Cycles
     ensures { result.0 ≡ min cap (times * a.0) }
 {
-    if times == 0 {
-        return Cycles(0);
-    }
-    if CAP / times < a.0 {
-        return Cycles(CAP);
-    }
-    Cycles(times * a.0)
+    Cycles(times.saturating_mul(a.0).min(CAP))
 }
 
 // What loop i adds to an edge that leaves it: entering it, and all its iterations but the last.
@@ -51,6 +44,7 @@ pub fn stay_in(l: &Numbers, i: usize, entry: Cycles, turn: Cycles) -> Cycles
 }
 
 // What the edge from u to v leaves: the loops around u from the inside out, up to the first that holds v, since those around that one hold v too.
+#[tactic(auto, using(chains::proofs::Checks::checked_bounds))]
 pub fn leave(l: &Numbers, loops: &LoopTable, w: &VertexTable, u: usize, v: usize) -> Cycles
     requires fact_1 { Checked l.now }
     requires fact_2 { LoopChains l.now loops.now }

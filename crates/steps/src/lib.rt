@@ -37,12 +37,10 @@ pub fn step_table(l: &Numbers) -> StepTable
     let mut table = [0u8; STEP_COUNT];
     table[START_ROW] = 1;
     let count = lookup::edge_count(l);
-    let mut i: usize = 0;
-    while i < count {
+    for i in 0..count {
         let from = lookup::edge_from(l, i);
         let to = lookup::edge_to(l, i);
         table[places::MOST_VERTICES * from + to] = step_along(from, to);
-        i += 1;
     }
     table
 }

@@ -1,5 +1,7 @@
 -- The checks of Bound and Run through 13: the problem's own, then the layout's.
 use Prim.Native.Nat.{ℕ, ◌-◌, ◌<◌}
+use Rattle.std.specs.Prelude.{Err, Ok, Result}
+use Rattle.model.specs.Refusals.{Verdict}
 use mathlib.Core.Path.{◌≡◌, refl, sym, ap, subst, ◌∙◌}
 use mathlib.Core.List.{List}
 use mathlib.Core.Bool.{Bool, false, cond}
@@ -7,8 +9,6 @@ use native.Mathlib.Omega.{arith}
 use lib.Dec.{ltb}
 use borrow.Author.Tests.{ltb-false}
 use Rattle.model.specs.declared.Refusal.{Refusal}
-use Rattle.model.specs.declared.Verdict.{Verdict}
-use Rattle.model.specs.declared.Verdict.TheVariants as verdict
 use Rattle.model.specs.declared.Problem.{Problem}
 use Rattle.model.specs.declared.Bytes.{Bytes}
 use Rattle.model.specs.Zero.{bytes}
@@ -25,15 +25,13 @@ use Rattle.model.proofs.Search.{none_below}
 use Rattle.numbers.specs.Numbered.{Numbered}
 use Rattle.checks.specs.Steps.{judge_numbers}
 use Rattle.checks.proofs.Opened.{judges_problem, checked_problem}
-use Rattle.layout.specs.declared.LayoutAnswer.{LayoutAnswer}
-use Rattle.layout.specs.declared.LayoutAnswer.TheVariants.{Fits, Refused}
 use Rattle.layout.specs.Answers.{layout_answer, layout_verdict}
 use Rattle.layout.proofs.Alike.{alike_need}
 use Rattle.layout.proofs.FilledIn.{lists_all, regions_same}
 use Rattle.regions.specs.Regions.{KnownRegions}
 
 module _ (p : Problem) (layout : List ℕ) where
-  pub bad_problem : (x : Refusal) → judge_problem p ≡ verdict.Refused x → judge_bound p layout ≡ verdict.Refused x
+  pub bad_problem : (x : Refusal) → judge_problem p ≡ Err x → judge_bound p layout ≡ Err x
   unfolding judge_bound
   bad_problem x e = ap (λ (v : Verdict). and_then v (judge_layout p layout)) e
 
@@ -41,7 +39,7 @@ module _ (p : Problem) (layout : List ℕ) where
   unknown f = ltb (most_regions - 1) (region_of layout f)
 
   -- Where nothing was refused, every function has one of the regions.
-  layout_known : judge_layout p layout ≡ verdict.Accepted → (f : ℕ) → f < p.function_count → region_of layout f < most_regions
+  layout_known : judge_layout p layout ≡ Ok tt → (f : ℕ) → f < p.function_count → region_of layout f < most_regions
   unfolding judge_layout
   layout_known layout_good f below =
       let rest = (accepted_both (judge_length p layout) _ layout_good).1 in
@@ -51,31 +49,31 @@ module _ (p : Problem) (layout : List ℕ) where
       omega (arith, ltb-false (most_regions - 1) (region_of layout f) (none_below p.function_count unknown none f below))
 
 -- A problem whose own checks refused.
-pub refused_early : (p : Problem) (l layout : List ℕ) → Numbered p l → (v : Verdict) → v ≡ judge_numbers l → (x : Refusal) → v ≡ verdict.Refused x →
-    judge_bound p layout ≡ verdict.Refused x
+pub refused_early : (p : Problem) (l layout : List ℕ) → Numbered p l → (v : Verdict) → v ≡ judge_numbers l → (x : Refusal) → v ≡ Err x →
+    judge_bound p layout ≡ Err x
 refused_early p l layout numbered v is x e = bad_problem p layout x (sym (judges_problem p l numbered v is) ∙ e)
 
 -- A layout with checked numbers and its regions, filled in: the refusal through 13, or the bytes that it needs, and the regions known.
 pub record Through (l layout regions : List ℕ) (need : Bytes) : Type 0 where
-  pub good : judge_bound (problem_of l) layout ≡ verdict.Accepted
+  pub good : judge_bound (problem_of l) layout ≡ Ok tt
   pub same : region_of regions ≡ region_of layout
   pub need_is : need.0 ≡ need_of (problem_of l) regions
   pub regions_known : KnownRegions (problem_of l) regions
 
-module _ (l layout : List ℕ) (ok : Checked l) (a : LayoutAnswer) (judged : a ≡ layout_answer (judge_layout (problem_of l) layout) (need_of (problem_of l) layout)) where
+module _ (l layout : List ℕ) (ok : Checked l) (a : Result Bytes Refusal) (judged : a ≡ layout_answer (judge_layout (problem_of l) layout) (need_of (problem_of l) layout)) where
   then_layout : judge_bound (problem_of l) layout ≡ judge_layout (problem_of l) layout
   unfolding judge_bound
   then_layout = ap (λ (v : Verdict). and_then v (judge_layout (problem_of l) layout)) (checked_problem l ok)
 
-  pub refused_layout : (x : Refusal) → layout_verdict a ≡ verdict.Refused x → judge_bound (problem_of l) layout ≡ verdict.Refused x
-  refused_layout x e = then_layout ∙ sym (same_verdict (judge_layout (problem_of l) layout)) ∙ ap layout_verdict (sym judged) ∙ e
+  pub refused_layout : (x : Refusal) → a ≡ Err x → judge_bound (problem_of l) layout ≡ Err x
+  refused_layout x e = then_layout ∙ sym (same_verdict (judge_layout (problem_of l) layout)) ∙ ap layout_verdict (sym judged ∙ e)
     where
       same_verdict : (v : Verdict) → layout_verdict (layout_answer v (need_of (problem_of l) layout)) ≡ v
-      same_verdict verdict.Accepted = refl
-      same_verdict (verdict.Refused f) = refl
+      same_verdict (Ok tt) = refl
+      same_verdict (Err f) = refl
 
   module _ (regions : List ℕ) (filled : regions ≡ filled_in layout (problem_of l).function_count) where
-    fitting : (need : Bytes) → judge_layout (problem_of l) layout ≡ verdict.Accepted → bytes (need_of (problem_of l) layout) ≡ need → Through l layout regions need
+    fitting : (need : Bytes) → judge_layout (problem_of l) layout ≡ Ok tt → bytes (need_of (problem_of l) layout) ≡ need → Through l layout regions need
     unfolding judge_layout
     fitting need accepted is =
         let same = regions_same (problem_of l) layout regions filled (accepted_both (judge_length (problem_of l) layout) _ accepted).0 in
@@ -90,9 +88,9 @@ module _ (l layout : List ℕ) (ok : Checked l) (a : LayoutAnswer) (judged : a �
               };
         }
 
-    pub through : (need : Bytes) → a ≡ Fits need → Through l layout regions need
+    pub through : (need : Bytes) → a ≡ Ok need → Through l layout regions need
     through need e = at (judge_layout (problem_of l) layout) refl (sym judged ∙ e)
       where
-        at : (v : Verdict) → judge_layout (problem_of l) layout ≡ v → layout_answer v (need_of (problem_of l) layout) ≡ Fits need → Through l layout regions need
-        at verdict.Accepted q z = let same : bytes (need_of (problem_of l) layout) ≡ need = cc in fitting need q same
-        at (verdict.Refused r) q z = let w : ◌≡◌ {A = ℕ} 0 1 = cc in absurd (omega arith)
+        at : (v : Verdict) → judge_layout (problem_of l) layout ≡ v → layout_answer v (need_of (problem_of l) layout) ≡ Ok need → Through l layout regions need
+        at (Ok tt) q z = let same : bytes (need_of (problem_of l) layout) ≡ need = cc in fitting need q same
+        at (Err r) q z = let w : ◌≡◌ {A = ℕ} 0 1 = cc in absurd (omega arith)

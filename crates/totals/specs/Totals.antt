@@ -1,10 +1,9 @@
 -- What Bound answers where the bytes needed, the contested vertices, the first loads, the greatest visit charges and the greatest second total are found.
-use Rattle.std.specs.Prelude.{ℕ, ◌+◌, ◌-◌, min, cond, ltb}
+use Rattle.std.specs.Prelude.{ℕ, ◌+◌, ◌-◌, min, cond, ltb, Err, Ok, Result}
+use Rattle.model.specs.declared.Refusal.{Refusal}
 use Rattle.model.specs.declared.Bytes.{Bytes}
 use Rattle.model.specs.declared.Cycles.{Cycles}
 use Rattle.model.specs.declared.Bound.{Bound}
-use Rattle.model.specs.declared.BoundAnswer.{BoundAnswer}
-use Rattle.model.specs.declared.BoundAnswer.TheVariants.{Bounded, Refused}
 use Rattle.model.specs.declared.Refusal.TheVariants.{BoundTooLarge}
 use Rattle.model.specs.Results.{bound_limit}
 
@@ -23,5 +22,5 @@ module _ (need : Bytes) (contested : ℕ) (first greatest second : Cycles) where
   }
 
   -- The total, or 14 where it passes the limit.
-  abbrev pub totalled : BoundAnswer
-  totalled = cond (ltb bound_limit (smaller first greatest second)) (Refused (BoundTooLarge 0)) (Bounded with_total)
+  abbrev pub totalled : Result Bound Refusal
+  totalled = cond (ltb bound_limit (smaller first greatest second)) (Err (BoundTooLarge 0)) (Ok with_total)

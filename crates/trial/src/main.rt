@@ -15,44 +15,14 @@ fn main(rt: HostRuntime) -> io::Result<()> {
     files::refused_by_graph(&mut out)?;
     files::m10(&mut out)?;
     field_cases::m10(&mut out)?;
-    round_trip::run(
-        &mut out,
-        b"P",
-        samples::p(14),
-        numbers::numbers_of(samples::p(14)),
-    )?;
+    round_trip::run(&mut out, b"P", samples::p(14))?;
     round_trip::from_padding(&mut out, b"P padded", samples::p(14))?;
-    round_trip::run(
-        &mut out,
-        b"Q",
-        samples::q(),
-        numbers::numbers_of(samples::q()),
-    )?;
+    round_trip::run(&mut out, b"Q", samples::q())?;
     round_trip::from_padding(&mut out, b"Q padded", samples::q())?;
-    round_trip::run(
-        &mut out,
-        b"R",
-        samples::r(4),
-        numbers::numbers_of(samples::r(4)),
-    )?;
+    round_trip::run(&mut out, b"R", samples::r(4))?;
     round_trip::from_padding(&mut out, b"R padded", samples::r(4))?;
-    round_trip::run(
-        &mut out,
-        b"R with bound 4,096",
-        samples::r(4096),
-        numbers::numbers_of(samples::r(4096)),
-    )?;
-    round_trip::run(
-        &mut out,
-        b"R with bound 4,097",
-        samples::r(4097),
-        numbers::numbers_of(samples::r(4097)),
-    )?;
-    round_trip::run(
-        &mut out,
-        b"R with bound 65,535",
-        samples::r(65535),
-        numbers::numbers_of(samples::r(65535)),
-    )?;
+    round_trip::run(&mut out, b"R with bound 4,096", samples::r(4096))?;
+    round_trip::run(&mut out, b"R with bound 4,097", samples::r(4097))?;
+    round_trip::run(&mut out, b"R with bound 65,535", samples::r(65535))?;
     files::bounds_of_r(&mut out)
 }

@@ -2,7 +2,7 @@
 ghost use Rattle.std.specs.Prelude.{◌≡◌, true};
 
 use crate::{padded, show};
-use model::{Numbers, Problem, Refusal, Verdict, WriteAnswer, places};
+use model::{Numbers, Problem, Refusal, places};
 use std::io;
 use std::io::Write;
 
@@ -26,12 +26,7 @@ pub fn front(buf: &[u8], count: usize) -> &[u8] {
 }
 
 fn refused(out: &mut impl Write, name: &[u8], refusal: Refusal) -> io::Result<()> {
-    show::refusal(
-        out,
-        name,
-        model::number_of(refusal),
-        model::place_of(refusal),
-    )
+    show::refusal(out, name, refusal.number(), refusal.place())
 }
 
 // Reads the file that was written, and shows whether it gives the problem again.
@@ -39,8 +34,8 @@ fn read_back(out: &mut impl Write, name: &[u8], said: Numbers, file: &[u8]) -> i
     let mut numbers = [0u64; places::END];
     let verdict = file::read_numbers(file, &mut numbers);
     match verdict {
-        Verdict::Refused(refusal) => refused(out, name, refusal)?,
-        Verdict::Accepted => {
+        Err(refusal) => refused(out, name, refusal)?,
+        Ok(()) => {
             let back = records::problem_of(&numbers);
             let same = same_numbers(said, numbers::numbers_of(back));
             show::read_back(out, name, file.len() as u64, same)?;
@@ -58,19 +53,20 @@ fn write(
 ) -> io::Result<usize> {
     let written = file::write(problem, room);
     match written {
-        WriteAnswer::Written(count) => Ok(count),
-        WriteAnswer::Refused(refusal) => {
+        Ok(count) => Ok(count),
+        Err(refusal) => {
             refused(out, name, refusal)?;
             Ok(0)
         }
     }
 }
 
-// A problem's file, read back. The numbers are those that the problem says.
-pub fn run(out: &mut impl Write, name: &[u8], problem: Problem, said: Numbers) -> io::Result<()> {
+// A problem's file, read back.
+pub fn run(out: &mut impl Write, name: &[u8], problem: Problem) -> io::Result<()> {
     let mut room = [0u8; ROOM];
     let count = write(out, name, problem, &mut room)?;
     if count != 0 {
+        let said = numbers::numbers_of(problem);
         read_back(out, name, said, front(&room, count))?;
     }
     Ok(())

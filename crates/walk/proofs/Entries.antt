@@ -1,5 +1,7 @@
 -- Judging a walk entry by entry: what is known after i entries, and what each answer says.
 use Prim.Native.Nat.{ℕ, suc, ◌+◌, ◌*◌, ◌≤◌, ◌<◌}
+use Rattle.std.specs.Prelude.{Err, Ok}
+use Rattle.model.specs.Refusals.{Verdict}
 use mathlib.Core.Path.{◌≡◌, refl, sym, ap, ◌∙◌}
 use mathlib.Core.List.{List, [], ◌∷◌}
 use mathlib.Core.Bool.{Bool, true, false, cond, ◌&&◌, and-eq-true_iff}
@@ -11,8 +13,6 @@ use lib.Dec.{ltb, eqb}
 use borrow.Author.Tests.{ltb-true, leb-true, leb-false, eq-eqb, ne_eqb, eqb-true, eqb-false}
 use Rattle.model.specs.declared.Problem.{Problem}
 use Rattle.model.specs.declared.Refusal.TheVariants.{WrongStep, BeyondBound}
-use Rattle.model.specs.declared.Verdict.{Verdict}
-use Rattle.model.specs.declared.Verdict.TheVariants.{Accepted, Refused}
 use Rattle.model.specs.Numbers.{problem_of}
 use Rattle.model.specs.Operations.{Checked}
 use Rattle.model.specs.Walks.{last_vertex, visits}
@@ -56,12 +56,12 @@ some_step false may back step e some = absurd (some e)
 
 -- One entry, judged by its tests.
 module _ (p : Problem) (h : List ℕ) (k v : ℕ) (rest : List ℕ) where
-  entry_bad : (ltb v p.vertex_count && may_follow p h v) ≡ false → Refused (WrongStep k) ≡ judge_walk p h k (v ∷ rest)
+  entry_bad : (ltb v p.vertex_count && may_follow p h v) ≡ false → Err (WrongStep k) ≡ judge_walk p h k (v ∷ rest)
   unfolding judge_walk
   entry_bad e = rw e
 
   module _ (step : (ltb v p.vertex_count && may_follow p h v) ≡ true) where
-    entry_past : past_bound p h v ≡ true → Refused (BeyondBound k) ≡ judge_walk p h k (v ∷ rest)
+    entry_past : past_bound p h v ≡ true → Err (BeyondBound k) ≡ judge_walk p h k (v ∷ rest)
     unfolding judge_walk
     entry_past e = rw (step, e)
 
@@ -113,17 +113,17 @@ module _ (l : List ℕ) (checked : Checked l) (walk : List ℕ) where
         }
 
     module _ (over : length walk ≤ i) where
-      ended : judge_walk (problem_of l) [] 0 walk ≡ cond (eqb (u + 1) (problem_of l).vertex_count) Accepted (Refused (WrongStep i))
+      ended : judge_walk (problem_of l) [] 0 walk ≡ cond (eqb (u + 1) (problem_of l).vertex_count) (Ok tt) (Err (WrongStep i))
       unfolding judge_walk
       ended =
           sym judging.rest
           ∙ ap (judge_walk (problem_of l) judging.history i) (drop_of_length-le walk over)
           ∙ (rw (at_last_lem (problem_of l) judging.history (few_vertices l (facts _ checked)) judging.known, judging.from))
 
-      pub ends_well : u + 1 ≡ (problem_of l).vertex_count → Accepted ≡ judge_walk (problem_of l) [] 0 walk
+      pub ends_well : u + 1 ≡ (problem_of l).vertex_count → Ok tt ≡ judge_walk (problem_of l) [] 0 walk
       ends_well e = sym (ended ∙ (rw (eq-eqb (u + 1) (problem_of l).vertex_count e)))
 
-      pub ends_early : (u + 1 ≡ (problem_of l).vertex_count → ⊥) → Refused (WrongStep i) ≡ judge_walk (problem_of l) [] 0 walk
+      pub ends_early : (u + 1 ≡ (problem_of l).vertex_count → ⊥) → Err (WrongStep i) ≡ judge_walk (problem_of l) [] 0 walk
       ends_early n = sym (ended ∙ (rw (ne_eqb (u + 1) (problem_of l).vertex_count n)))
 
   -- What follows for the walk from the step to entry i.
@@ -137,7 +137,7 @@ module _ (l : List ℕ) (checked : Checked l) (walk : List ℕ) where
     onward : (x : Verdict) → x ≡ judge_walk (problem_of l) h i (v ∷ drop (suc i) walk) → x ≡ judge_walk (problem_of l) [] 0 walk
     onward x e = e ∙ ap (judge_walk (problem_of l) h i) (sym (drop-cons walk i 0 stepping.more)) ∙ stepping.judging.rest
 
-    pub bad : step ≡ 0 → Refused (WrongStep i) ≡ judge_walk (problem_of l) [] 0 walk
+    pub bad : step ≡ 0 → Err (WrongStep i) ≡ judge_walk (problem_of l) [] 0 walk
     bad none = onward _ (entry_bad (problem_of l) h i v _ (no_step (ltb v (problem_of l).vertex_count) (may_follow (problem_of l) h v) (goes_back h v) (sym none ∙ stepping.is)))
 
     module _ (some : step ≡ 0 → ⊥) where
@@ -163,7 +163,7 @@ module _ (l : List ℕ) (checked : Checked l) (walk : List ℕ) where
           }
 
       module _ (bounds : List ℕ) (are : Bounds (problem_of l) bounds) (after : List ℕ) (within : Bool) (arrived : Arrived bounds counts after step v within) where
-        pub past : within ≡ false → Refused (BeyondBound i) ≡ judge_walk (problem_of l) [] 0 walk
+        pub past : within ≡ false → Err (BeyondBound i) ≡ judge_walk (problem_of l) [] 0 walk
         past e =
             onward _ (entry_past (problem_of l) h i v _ good_step.0
             (past_it l checked h v both.1 counts stepping.judging.tally step good_step.1 bounds are inside (leb-false _ _ (sym arrived.told ∙ e))))

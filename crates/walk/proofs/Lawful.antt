@@ -1,5 +1,6 @@
 -- A walk that is judged good is a lawful walk in its own order, and every lawful walk is judged good.
 use Prim.Native.Nat.{ℕ, zero, suc, ◌+◌, ◌<◌}
+use Rattle.std.specs.Prelude.{Ok}
 use mathlib.Core.Path.{◌≡◌, refl, sym, ap, ◌∙◌}
 use mathlib.Core.List.{List, [], ◌∷◌, reverse, reverse_aux}
 use mathlib.Core.Bool.{true, false, ◌&&◌, and-eq-true_iff}
@@ -9,7 +10,6 @@ use lib.ListN.{length, get_or}
 use lib.Dec.{ltb}
 use borrow.Author.Tests.{lt-ltb, ltb-true, eq-eqb, eqb-true}
 use Rattle.model.specs.declared.Problem.{Problem}
-use Rattle.model.specs.declared.Verdict.TheVariants.{Accepted}
 use Rattle.model.specs.Numbers.{problem_of}
 use Rattle.model.specs.Graph.{loops_of}
 use Rattle.model.specs.Operations.{Checked}
@@ -29,7 +29,7 @@ Sound p (v ∷ h) = Walk (EdgeOf p) v h × Within (loops_of p) (v ∷ h)
 
 module _ (p : Problem) where
   -- What an accepted entry passed.
-  module _ (h : List ℕ) (k v : ℕ) (rest : List ℕ) (ok : judge_walk p h k (v ∷ rest) ≡ Accepted) where
+  module _ (h : List ℕ) (k v : ℕ) (rest : List ℕ) (ok : judge_walk p h k (v ∷ rest) ≡ Ok tt) where
     passed : (ltb v p.vertex_count && may_follow p h v) ≡ true
     unfolding judge_walk
     passed = by_bool (ltb v p.vertex_count && may_follow p h v) (λ e. e) (λ e. refused_not_accepted (rw e at ok))
@@ -41,10 +41,10 @@ module _ (p : Problem) where
     unfolding judge_walk
     bounded = by_bool (past_bound p h v) (λ e. refused_not_accepted (rw (passed, e) at ok)) (λ e. e)
 
-    onward : judge_walk p (v ∷ h) (k + 1) rest ≡ Accepted
+    onward : judge_walk p (v ∷ h) (k + 1) rest ≡ Ok tt
     onward = entry_good p h k v rest passed bounded ∙ ok
 
-  pub entries_known : (walk : List ℕ) (h : List ℕ) (k : ℕ) → judge_walk p h k walk ≡ Accepted → (i : ℕ) → i < length walk → get_or walk i 0 < p.vertex_count
+  pub entries_known : (walk : List ℕ) (h : List ℕ) (k : ℕ) → judge_walk p h k walk ≡ Ok tt → (i : ℕ) → i < length walk → get_or walk i 0 < p.vertex_count
   entries_known [] h k ok i less = absurd (omega arith)
   entries_known (v ∷ rest) h k ok zero less = ltb-true v _ (both h k v rest ok).0
   entries_known (v ∷ rest) h k ok (suc i) less = entries_known rest (v ∷ h) (k + 1) (onward h k v rest ok) i (omega arith)
@@ -70,7 +70,7 @@ module _ (p : Problem) where
       let is : v ≡ last_vertex p = eqb-true v (last_vertex p) e in
       (h, ap (λ (x : ℕ). x ∷ h) is, record { walk = rw is at sound.0; within = rw is at sound.1 })
 
-  judged : (walk : List ℕ) (h : List ℕ) (k : ℕ) → judge_walk p h k walk ≡ Accepted → Sound p h →
+  judged : (walk : List ℕ) (h : List ℕ) (k : ℕ) → judge_walk p h k walk ≡ Ok tt → Sound p h →
       (h' : List ℕ) × (reverse_aux walk h ≡ last_vertex p ∷ h') × Lawful p h'
   unfolding judge_walk
   judged [] h k ok sound = by_bool (at_last p h) (λ e. lawful_end h sound e) (λ e. refused_not_accepted (rw e at ok))
@@ -78,7 +78,7 @@ module _ (p : Problem) where
       judged rest (v ∷ h) (k + 1) (onward h k v rest ok) (sound_more h v (both h k v rest ok).1 (bounded h k v rest ok) sound)
 
   -- A walk that is judged good is lawful.
-  pub judged_lawful : (walk : List ℕ) → judge_walk p [] 0 walk ≡ Accepted → LawfulWalk p walk
+  pub judged_lawful : (walk : List ℕ) → judge_walk p [] 0 walk ≡ Ok tt → LawfulWalk p walk
   judged_lawful walk ok = judged walk [] 0 ok tt
 
   within_bounds : (h : List ℕ) (v : ℕ) → Within (loops_of p) (v ∷ h) → past_bound p h v ≡ false
@@ -107,7 +107,7 @@ module _ (l : List ℕ) (checked : Checked l) where
       ∙ ap (λ (k : ℕ). judge_walk (problem_of l) (v ∷ u ∷ h) k rest) (add-one (suc (length h)))
 
   -- Every lawful walk is judged good.
-  pub lawful_judged : (h : List ℕ) → Lawful (problem_of l) h → judge_walk (problem_of l) [] 0 (reverse (last_vertex (problem_of l) ∷ h)) ≡ Accepted
+  pub lawful_judged : (h : List ℕ) → Lawful (problem_of l) h → judge_walk (problem_of l) [] 0 (reverse (last_vertex (problem_of l) ∷ h)) ≡ Ok tt
   unfolding judge_walk at_last
   lawful_judged h lawful =
       good_so_far lawful.walk lawful.within []

@@ -8,7 +8,7 @@ ghost use Rattle.model.specs.Operations.{Checked};
 ghost use Rattle.model.specs.Verdicts.{judge_walk};
 ghost use Rattle.walk.specs.Judging.{Bounds, Arriving, Arrived};
 
-use model::{Numbers, Refusal, Verdict, limits, places};
+use model::{Numbers, Refusal, limits, places};
 
 // A number a vertex.
 type ByVertex = [u64; places::MOST_VERTICES];
@@ -20,11 +20,9 @@ fn bound_table(l: &Numbers) -> ByVertex
 {
     let mut table = [limits::MOST_VISITS as u64; places::MOST_VERTICES];
     let count = lookup::loop_count(l);
-    let mut i: usize = 0;
-    while i < count {
+    for i in 0..count {
         let header = lookup::loop_header(l, i);
         table[header] = lookup::loop_bound(l, i);
-        i += 1;
     }
     table
 }
@@ -44,7 +42,7 @@ fn count_arrival(bounds: &ByVertex, counts: &mut ByVertex, step: u8, v: usize) -
 }
 
 // Judges a walk: 15 and 16 at the first bad position, 15 first at one position.
-pub fn judge(l: &Numbers, walk: &[u32]) -> Verdict
+pub fn judge(l: &Numbers, walk: &[u32]) -> Result<(), Refusal>
     requires { Checked l.now }
     ensures { result ≡ judge_walk (problem_of l.now) [] 0 walk.now }
 {
@@ -53,21 +51,19 @@ pub fn judge(l: &Numbers, walk: &[u32]) -> Verdict
     let vertices = lookup::vertex_count(l);
     let mut counts = [0u64; places::MOST_VERTICES];
     let mut u: usize = steps::START;
-    let mut i: usize = 0;
-    while i < walk.len() {
-        let v = walk[i] as usize;
+    for (i, entry) in walk.iter().enumerate() {
+        let v = *entry as usize;
         let step = steps::step_to(&steps, vertices, u, v);
         if step == 0 {
-            return Verdict::Refused(Refusal::WrongStep(i as u64));
+            return Err(Refusal::WrongStep(i as u64));
         }
         if !count_arrival(&bounds, &mut counts, step, v) {
-            return Verdict::Refused(Refusal::BeyondBound(i as u64));
+            return Err(Refusal::BeyondBound(i as u64));
         }
         u = v;
-        i += 1;
     }
     if u + 1 == vertices {
-        return Verdict::Accepted;
+        return Ok(());
     }
-    Verdict::Refused(Refusal::WrongStep(i as u64))
+    Err(Refusal::WrongStep(walk.len() as u64))
 }

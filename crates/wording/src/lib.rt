@@ -41,8 +41,8 @@ fn write_numbered(number: u32, place: u64, room: &mut Room) -> usize
 fn write_refusal(refusal: Refusal, room: &mut Room) -> usize
     ensures { Written room.old 0 (sentence (Refused refusal)) room.new result }
 {
-    let number = model::number_of(refusal);
-    let place = model::place_of(refusal);
+    let number = refusal.number();
+    let place = refusal.place();
     write_numbered(number, place, room)
 }
 

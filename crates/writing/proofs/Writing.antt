@@ -1,6 +1,7 @@
 -- The loop that writes numbers that are judged good: the bytes still to be written complete the file, and what is left to judge is what was to be judged from
 -- the first field.
 use Prim.Native.Nat.{ℕ, zero, suc, ◌+◌, ◌-◌, ◌≤◌, ◌<◌}
+use Rattle.std.specs.Prelude.{Ok}
 use mathlib.Core.Path.{◌≡◌, refl, sym, ap, ◌∙◌}
 use mathlib.Core.List.{List, ◌++◌}
 use native.Mathlib.Omega.{arith}
@@ -8,7 +9,6 @@ use lib.ListN.{length, get_or}
 use lib.Seq.{sets, length-sets}
 use borrow.Author.Tests.{le-leb, lt-leb}
 use Rattle.model.specs.declared.Field.{Field}
-use Rattle.model.specs.declared.FieldsAnswer.TheVariants.{Done}
 use Rattle.model.specs.File.{number_count, first_field, next_field, edition_in, field_size, field_bytes, item_start, check_from, check_fields, bytes_from, file_bytes}
 use Rattle.model.proofs.Cases.{by_order}
 use Rattle.model.proofs.Lists.{sets-append}
@@ -20,13 +20,13 @@ use Rattle.edge_runs.proofs.Going.{Reached, reached_first, to_come, reached_next
 use Rattle.model.specs.Rows as rows
 
 -- The position only grows.
-check_grows : (n at start : ℕ) (c : Field) (l : List ℕ) (end : ℕ) → check_from n at start c l ≡ Done end → at ≤ end
+check_grows : (n at start : ℕ) (c : Field) (l : List ℕ) (end : ℕ) → check_from n at start c l ≡ Ok end → at ≤ end
 unfolding check_from
-check_grows zero at start c l end e = let q : Done at ≡ Done end = e in let p : at ≡ end = cc in omega arith
+check_grows zero at start c l end e = let q : Ok at ≡ Ok end = e in let p : at ≡ end = cc in omega arith
 check_grows (suc n) at start c l end e =
     by_order c.row rows.end
     (λ h. let next = check_grows n (at + field_size (edition_in l) c (get_or l c.place 0)) (item_start c at start) (next_field c (get_or l c.place 0)) l end (checked l n at start end c h e).1 in omega arith)
-    (λ h. let q : Done at ≡ Done end = sym (check_done l at start c (suc n) h) ∙ e in let p : at ≡ end = cc in omega arith)
+    (λ h. let q : Ok at ≡ Ok end = sym (check_done l at start c (suc n) h) ∙ e in let p : at ≡ end = cc in omega arith)
 
 pub record Writing (buf₀ numbers buf : List ℕ) (field : Field) (at : ℕ) : Type 0 where
   pub start : ℕ
@@ -48,7 +48,7 @@ module _ {buf₀ numbers buf : List ℕ} {field : Field} {at : ℕ} (w : Writing
   bytes_done zero h = refl
   bytes_done (suc n) h = rw (bytes_over n field numbers (le-leb rows.end field.row h))
 
-  pub write_all : rows.end ≤ field.row → (Done at ≡ check_fields numbers) × (buf ≡ sets buf₀ 0 (file_bytes numbers))
+  pub write_all : rows.end ≤ field.row → (Ok at ≡ check_fields numbers) × (buf ≡ sets buf₀ 0 (file_bytes numbers))
   write_all h = (sym (check_done numbers at w.start field _ h) ∙ w.same, sym (bytes_done _ h) ∙ w.bytes)
 
   module _ (fits : Fits numbers buf₀) (h : field.row < rows.end) where
@@ -56,7 +56,7 @@ module _ {buf₀ numbers buf : List ℕ} {field : Field} {at : ℕ} (w : Writing
     to_write = number_count - (w.count + 1)
 
     -- The number is good, and so is what follows it.
-    good : Passed numbers field × (check_from to_write (at + field_size (edition_in numbers) field here) (item_start field at w.start) (next_field field here) numbers ≡ Done fits.need)
+    good : Passed numbers field × (check_from to_write (at + field_size (edition_in numbers) field here) (item_start field at w.start) (next_field field here) numbers ≡ Ok fits.need)
     unfolding to_write
     good =
         checked numbers to_write at w.start fits.need field h

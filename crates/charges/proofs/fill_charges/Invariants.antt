@@ -1,5 +1,5 @@
 -- `charges::fill_charges` keeps the visit charges of the vertices passed.
-use Prim.Native.Nat.{◌≤◌, ◌-◌}
+use Prim.Native.Nat.{◌≤◌}
 use Rattle.model.specs.Numbers.{problem_of}
 use Rattle.charges.specs.Tests.{flagged}
 use Rattle.charges.proofs.Filling.{ChargedTo}
@@ -7,6 +7,3 @@ use Rattle.charges.proofs.fill_charges.Given as goal
 
 abbrev pub invariant-loop-v : goal.invariant-loop-v
 invariant-loop-v l = (l.v ≤ l.count) × ChargedTo (problem_of l.l) (flagged l.flags) l.v l.charge
-
-abbrev pub decreases-loop-v : goal.decreases-loop-v
-decreases-loop-v l = l.count - l.v

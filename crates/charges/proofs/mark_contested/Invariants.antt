@@ -1,5 +1,4 @@
 -- `charges::mark_contested` keeps the answers for the vertices passed, and their count.
-use Prim.Native.Nat.{◌-◌}
 use Rattle.model.specs.Numbers.{problem_of}
 use Rattle.charges.specs.Tests.{contested_by}
 use Rattle.charges.proofs.Filling.{Tallying}
@@ -7,6 +6,3 @@ use Rattle.charges.proofs.mark_contested.Given as goal
 
 abbrev pub invariant-loop-v : goal.invariant-loop-v
 invariant-loop-v l = Tallying (problem_of l.l).vertex_count (contested_by (problem_of l.l) l.rivals l.held) l.v l.flags l.tally
-
-abbrev pub decreases-loop-v : goal.decreases-loop-v
-decreases-loop-v l = l.count - l.v

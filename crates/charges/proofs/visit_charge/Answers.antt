@@ -31,8 +31,8 @@ bounds-entered-v c = omega (arith, vertex_small _ (facts _ c.requires.checked_1)
 pub times-requires : goal.times-requires
 times-requires c = (flags_low c.requires.entered_told_1).low _ c.requires.checked_2
 
-pub sum_of_cycles-unloaded-requires : goal.sum_of_cycles-unloaded-requires
-sum_of_cycles-unloaded-requires c =
+pub add-unloaded-requires : goal.add-unloaded-requires
+add-unloaded-requires c =
     let (ok, known) = own_function _ c.requires.checked_1 _ c.requires.checked_2 c.function_of-f.ensures in
     omega (
       arith,
@@ -50,9 +50,9 @@ bounds-flags-v c = omega (arith, vertex_small _ (facts _ c.requires.checked_1) _
 pub times-requires-2 : goal.times-requires-2
 times-requires-2 c = c.requires.entered_told_2.low _ c.requires.checked_2
 
-pub sum_of_cycles-requires : goal.sum_of_cycles-requires
-sum_of_cycles-requires c =
-    omega (arith, (ap (λ (x : ℕ). x + c.times-2.result.0) c.sum_of_cycles-unloaded.ensures ∙ price_of _ _ _ _ c.own_cost-own.ensures c.function_of-f.ensures c.check_of-check.ensures c.load_of-load.ensures c.times.ensures c.times-2.ensures ∙ price_flagged _ _ _ c.requires.entered_told_1 c.requires.entered_told_2 _ c.requires.checked_2), visit_high _ c.requires.checked_1 (flagged c.args.flags.now) _ c.requires.checked_2)
+pub add-requires : goal.add-requires
+add-requires c =
+    omega (arith, (ap (λ (x : ℕ). x + c.times-2.result.0) c.add-unloaded.ensures ∙ price_of _ _ _ _ c.own_cost-own.ensures c.function_of-f.ensures c.check_of-check.ensures c.load_of-load.ensures c.times.ensures c.times-2.ensures ∙ price_flagged _ _ _ c.requires.entered_told_1 c.requires.entered_told_2 _ c.requires.checked_2), visit_high _ c.requires.checked_1 (flagged c.args.flags.now) _ c.requires.checked_2)
 
 pub returns : goal.returns
-returns c = c.sum_of_cycles.ensures ∙ (ap (λ (x : ℕ). x + c.times-2.result.0) c.sum_of_cycles-unloaded.ensures ∙ price_of _ _ _ _ c.own_cost-own.ensures c.function_of-f.ensures c.check_of-check.ensures c.load_of-load.ensures c.times.ensures c.times-2.ensures ∙ price_flagged _ _ _ c.requires.entered_told_1 c.requires.entered_told_2 _ c.requires.checked_2)
+returns c = c.add.ensures ∙ (ap (λ (x : ℕ). x + c.times-2.result.0) c.add-unloaded.ensures ∙ price_of _ _ _ _ c.own_cost-own.ensures c.function_of-f.ensures c.check_of-check.ensures c.load_of-load.ensures c.times.ensures c.times-2.ensures ∙ price_flagged _ _ _ c.requires.entered_told_1 c.requires.entered_told_2 _ c.requires.checked_2)

@@ -1,22 +1,21 @@
 -- `check` meets its definition: the fields, then the graph, each on the good case of the one before.
-use mathlib.Core.Path.{sym, ◌∙◌}
+use mathlib.Core.Path.{sym, refl}
+use Rattle.std.proofs.lemmas.Result.{err_from_is_err_and}
 use Rattle.facts.proofs.Facts.{field_facts}
 use Rattle.checks.proofs.Stages.{bad_fields, after_graph_lem}
 use Rattle.checks.proofs.check.Goals as goal
 
-pub returns-in_default : goal.returns-in_default
-returns-in_default c = bad_fields _ _ c.check_fields-fields.ensures _ c.in_default.is
+pub judge-requires : goal.judge-requires
+judge-requires c = field_facts _ _ (sym c.in_ok-need.ensures)
 
-pub judge-graph-requires : goal.judge-graph-requires
-judge-graph-requires c = field_facts _ _ (sym c.check_fields-fields.ensures ∙ c.in-Done.is)
+pub returns-in_err-need : goal.returns-in_err-need
+returns-in_err-need c =
+    let p = err_from_is_err_and c.from_residual.result c.from_residual.ensures.1 in rw (p.1, p.2) (bad_fields _ _ c.in_err-need.ensures _ refl)
 
-pub refusal_in-requires : goal.refusal_in-requires
-refusal_in-requires c = (_, c.in_default-graph.is)
-
-pub returns-in_default-graph : goal.returns-in_default-graph
-returns-in_default-graph c =
-    after_graph_lem _ _ c.check_fields-fields.ensures _ c.in-Done.is _ c.judge-graph.ensures _ c.refusal_in.ensures
+pub returns-in_err-judge : goal.returns-in_err-judge
+returns-in_err-judge c =
+    let p = err_from_is_err_and c.from_residual-in_err-judge.result c.from_residual-in_err-judge.ensures.1 in
+    rw (p.1, p.2) (after_graph_lem _ _ c.in_ok-need.ensures _ refl _ c.in_err-judge.ensures _ refl)
 
 pub returns : goal.returns
-returns c =
-    after_graph_lem _ _ c.check_fields-fields.ensures _ c.in-Done.is _ c.judge-graph.ensures _ c.in-Accepted.is
+returns c = after_graph_lem _ _ c.in_ok-need.ensures _ refl _ c.in_ok-judge.ensures _ refl

@@ -13,4 +13,4 @@ pub loop-preserved : goal.loop-preserved
 loop-preserved c = c.loop.invariant
 
 pub returns : goal.returns
-returns c = sym c.check_fields.ensures ∙ c.in-Done.is
+returns c = sym c.check_fields.ensures ∙ c.in-Ok.is

@@ -1,15 +1,8 @@
-use native.Mathlib.Omega.{arith}
-use Rattle.decimals.proofs.Storing.{counting_start, counting_next, counted}
+use mathlib.Core.Path.{sym}
+use Rattle.decimals.proofs.Digits.{size_by_power}
 use Rattle.decimals.proofs.decimal_size.Goals as goal
 
-pub loop-rest-init : goal.loop-rest-init
-loop-rest-init c = counting_start _
-
-pub overflow_add-size : goal.overflow_add-size
-overflow_add-size c = omega (arith, c.loop-rest.invariant.low)
-
-pub loop-rest-preserved : goal.loop-rest-preserved
-loop-rest-preserved c = counting_next _ _ _ c.loop-rest.invariant c.loop-rest-test.true
-
 pub returns : goal.returns
-returns c = counted _ _ _ c.loop-rest.invariant c.loop-rest-test.false
+returns c =
+    let e = c.ilog10.ensures in
+    sym (size_by_power c.args.n _ (rw c.max.ensures at e.power_le) (rw c.max.ensures at e.next_power_gt))

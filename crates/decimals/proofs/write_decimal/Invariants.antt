@@ -4,6 +4,3 @@ use Rattle.decimals.proofs.write_decimal.Given as goal
 
 abbrev pub invariant-loop-left : goal.invariant-loop-left
 invariant-loop-left l = Storing l.initial.buf l.at l.n l.buf l.left l.rest
-
-abbrev pub decreases-loop-left : goal.decreases-loop-left
-decreases-loop-left l = l.left

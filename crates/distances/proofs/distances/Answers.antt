@@ -6,35 +6,8 @@ use Rattle.ways.proofs.Known.{edges_small}
 use Rattle.distances.proofs.Searching.{search_begun, turn_vertex, turn_begun, search_on, search_over}
 use Rattle.distances.proofs.distances.Goals as goal
 
-pub overflow_mul-steps : goal.overflow_mul-steps
-overflow_mul-steps c = omega (arith, (vertex_small _ (facts _ c.requires.fact_1) _ c.requires.fact_3))
-
-pub overflow_add-steps : goal.overflow_add-steps
-overflow_add-steps c = omega (arith, (vertex_small _ (facts _ c.requires.fact_1) _ c.requires.fact_3))
-
-pub offset_bounds-steps-v : goal.offset_bounds-steps-v
-offset_bounds-steps-v c = omega (arith, (vertex_small _ (facts _ c.requires.fact_1) _ c.requires.fact_3))
-
-pub bounds-steps-v : goal.bounds-steps-v
-bounds-steps-v c = omega (arith, (vertex_small _ (facts _ c.requires.fact_1) _ c.requires.fact_3))
-
-pub overflow_mul-queue : goal.overflow_mul-queue
-overflow_mul-queue c = omega (arith, (vertex_small _ (facts _ c.requires.fact_1) _ c.requires.fact_3))
-
-pub overflow_add-queue : goal.overflow_add-queue
-overflow_add-queue c = omega (arith, (vertex_small _ (facts _ c.requires.fact_1) _ c.requires.fact_3))
-
-pub bounds-queue-0 : goal.bounds-queue-0
-bounds-queue-0 c = omega arith
-
 pub loop-first-init : goal.loop-first-init
 loop-first-init c = search_begun _ _ _ _ (vertex_small _ (facts _ c.requires.fact_1) _ c.requires.fact_3)
-
-pub offset_bounds-queue-first : goal.offset_bounds-queue-first
-offset_bounds-queue-first c = (let first_small : c.loop-first.first < most_states = omega (arith, c.loop-first.invariant.queued.room) in omega (arith, first_small))
-
-pub bounds-queue-first : goal.bounds-queue-first
-bounds-queue-first c = (let first_small : c.loop-first.first < most_states = omega (arith, c.loop-first.invariant.queued.room) in first_small)
 
 pub offset_bounds-steps-state : goal.offset_bounds-steps-state
 offset_bounds-steps-state c = omega (arith, (c.loop-first.invariant.queued.inside _ c.loop-first-test.true))
@@ -57,12 +30,6 @@ enter_before-end-requires c =
         turning = turn_begun c.loop-first.invariant some;
       };
     }
-
-pub overflow_add-first : goal.overflow_add-first
-overflow_add-first c = (let first_small : c.loop-first.first < most_states = omega (arith, c.loop-first.invariant.queued.room) in omega (arith, first_small))
-
-pub loop-first-smaller : goal.loop-first-smaller
-loop-first-smaller c = (let first_small : c.loop-first.first < most_states = omega (arith, c.loop-first.invariant.queued.room) in omega (arith, first_small))
 
 pub loop-first-preserved : goal.loop-first-preserved
 loop-first-preserved c =

@@ -1,7 +1,5 @@
-use Prim.Native.Nat.{◌-◌, ◌<◌}
+use Prim.Native.Nat.{◌-◌}
 use native.Mathlib.Omega.{arith}
-use Rattle.model.specs.Places.{most_edges}
-use Rattle.lookup.proofs.Places.{facts, few_edges}
 use Rattle.chains.proofs.Chains.{link_less}
 use Rattle.distances.proofs.Along.{along_none, along_next, along_more, along_all}
 use Rattle.distances.proofs.enter_before.Goals as goal
@@ -9,29 +7,11 @@ use Rattle.distances.proofs.enter_before.Goals as goal
 both : {A B : Type 0} → A × B → record { fact_1 : A; fact_2 : B }
 both p = record { fact_1 = p.0; fact_2 = p.1 }
 
-pub offset_bounds-edges-w : goal.offset_bounds-edges-w
-offset_bounds-edges-w c = omega arith
-
-pub bounds-edges-w : goal.bounds-edges-w
-bounds-edges-w c = omega arith
-
 pub loop-next-init : goal.loop-next-init
 loop-next-init c = along_none c.requires.fact_1 c.requires.fact_2
 
-pub overflow_sub-i : goal.overflow_sub-i
-overflow_sub-i c = omega arith
-
 pub enter_start-last-requires : goal.enter_start-last-requires
 enter_start-last-requires c = both (along_next _ (omega arith) c.requires.fact_3 c.loop-next.invariant)
-
-pub overflow_add-next : goal.overflow_add-next
-overflow_add-next c = (let small : c.loop-next.next - 1 < most_edges = omega (arith, few_edges _ (facts _ c.requires.fact_3.checked), c.loop-next.invariant.within) in omega (arith, small))
-
-pub offset_bounds-edges-i : goal.offset_bounds-edges-i
-offset_bounds-edges-i c = (let small : c.loop-next.next - 1 < most_edges = omega (arith, few_edges _ (facts _ c.requires.fact_3.checked), c.loop-next.invariant.within) in omega (arith, small))
-
-pub bounds-edges-i : goal.bounds-edges-i
-bounds-edges-i c = (let small : c.loop-next.next - 1 < most_edges = omega (arith, few_edges _ (facts _ c.requires.fact_3.checked), c.loop-next.invariant.within) in omega (arith, small))
 
 pub loop-next-smaller : goal.loop-next-smaller
 loop-next-smaller c =

@@ -8,12 +8,6 @@ use Rattle.drawn_calls.proofs.call_words.Goals as goal
 pub loop-f-init : goal.loop-f-init
 loop-f-init c = tells_none _ _ (length-replicate {A = ℕ} places.most_functions 0)
 
-pub calls_of-requires : goal.calls_of-requires
-calls_of-requires c = record { fact_1 = c.requires; fact_2 = omega (arith, (c.function_count-count.ensures)) }
-
-pub bounds-words-f : goal.bounds-words-f
-bounds-words-f c = omega (arith, (c.function_count-count.ensures), c.requires.functions)
-
 pub loop-f-preserved : goal.loop-f-preserved
 loop-f-preserved c =
     tells_more _ _ _ _ (omega (arith, (c.function_count-count.ensures), c.requires.functions)) c.loop-f.invariant c.calls_of.ensures

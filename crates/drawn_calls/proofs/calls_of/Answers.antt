@@ -9,15 +9,8 @@ use Rattle.model.specs.Drawings.{callee_of}
 use Rattle.drawn_calls.proofs.Calls.{called_none, called_more, called_all}
 use Rattle.drawn_calls.proofs.calls_of.Goals as goal
 
-pub vertex_count-count-requires : goal.vertex_count-count-requires
-vertex_count-count-requires c = omega (arith, c.requires.fact_1.functions, c.requires.fact_2)
-
 pub loop-v-init : goal.loop-v-init
 loop-v-init c = called_none _ _
-
-pub callee_at-requires : goal.callee_at-requires
-callee_at-requires c =
-    (omega (arith, c.requires.fact_1.functions, c.requires.fact_2), omega (arith, (c.requires.fact_1.drawn _ c.requires.fact_2).vertices, (c.vertex_count-count.ensures)))
 
 pub with_callee-word-requires : goal.with_callee-word-requires
 unfolding called_by

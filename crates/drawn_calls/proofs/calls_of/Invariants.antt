@@ -1,10 +1,6 @@
 -- `calls_of` meets its contract. The loop's invariant: the word has what the first v vertices call.
-use Prim.Native.Nat.{◌-◌}
 use Rattle.drawn_calls.proofs.Calls.{CalledTo}
 use Rattle.drawn_calls.proofs.calls_of.Given as goal
 
 abbrev pub invariant-loop-v : goal.invariant-loop-v
 invariant-loop-v l = CalledTo l.d l.f l.v l.word
-
-abbrev pub decreases-loop-v : goal.decreases-loop-v
-decreases-loop-v l = l.count - l.v

@@ -1,20 +1,9 @@
 use native.Mathlib.Omega.{arith}
 use Rattle.model.specs.declared.Refusal.TheVariants.{LastCalls}
 use Rattle.model.specs.Inlined.{judge_last}
-use Rattle.model.proofs.Search.{start, miss, broken_hit, broken_none}
+use Rattle.model.proofs.Search.{miss, broken_hit, broken_none}
 use Rattle.drawn_calls.proofs.Last.{last_told}
 use Rattle.drawn_calls.proofs.judge_last.Goals as goal
-
-pub loop-f-init : goal.loop-f-init
-loop-f-init c = start _ _
-
-pub vertex_count-last-requires : goal.vertex_count-last-requires
-vertex_count-last-requires c = omega (arith, (c.function_count-count.ensures), c.requires.functions)
-
-pub callee_at-requires : goal.callee_at-requires
-callee_at-requires c =
-    let few = c.requires.vertices c.loop-f.f (omega (arith, (c.function_count-count.ensures))) in
-    (omega (arith, (c.function_count-count.ensures), c.requires.functions), omega (arith, few, c.vertex_count-last.ensures))
 
 pub returns-then-calls_some : goal.returns-then-calls_some
 unfolding judge_last

@@ -1,11 +1,7 @@
 -- `judge_words` is its definition. The loop's invariant: the functions passed over do not stand in their own words.
-use Prim.Native.Nat.{◌-◌}
 use Rattle.model.proofs.Search.{Searched}
 use Rattle.drawn_calls.specs.Words.{told}
 use Rattle.drawn_calls.proofs.judge_words.Given as goal
 
 abbrev pub invariant-loop-f : goal.invariant-loop-f
 invariant-loop-f l = Searched l.count (λ g. told l.words g g) l.f
-
-abbrev pub decreases-loop-f : goal.decreases-loop-f
-decreases-loop-f l = l.count - l.f

@@ -1,9 +1,6 @@
 use native.Mathlib.Omega.{arith}
-use Rattle.drawn_calls.proofs.InPlace.{let_none, let_more, let_all}
+use Rattle.drawn_calls.proofs.InPlace.{let_more, let_all}
 use Rattle.drawn_calls.proofs.let_through.Goals as goal
-
-pub loop-f-init : goal.loop-f-init
-loop-f-init c = let_none _ _ c.requires.fact_2
 
 pub loop-f-preserved : goal.loop-f-preserved
 loop-f-preserved c =

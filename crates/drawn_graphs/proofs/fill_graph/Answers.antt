@@ -8,15 +8,11 @@ returns c =
     c.requires.fact_2
     c.scratchpad.ensures
     c.function_count-functions.ensures
-    c.at_most.ensures
     c.vertex_count-vertices.ensures
-    c.at_most-2.ensures
     c.edge_count-edges.ensures
-    c.at_most-3.ensures
     c.loop_count-loops.ensures
-    c.at_most-4.ensures
-    c.put_functions.ensures
-    c.put_vertices.ensures
-    c.put_edges.ensures
-    c.put_loops.ensures
+    c.put_items.ensures
+    c.put_items-2.ensures
+    c.put_items-3.ensures
+    c.put_items-4.ensures
     c.put_edition.ensures

@@ -1,12 +1,11 @@
 -- `judge_graph` says of the used numbers what the checks say of the graph.
+use mathlib.Core.Path.{◌≡◌, ap, ◌∙◌}
+use Rattle.std.proofs.Common.{rules}
+use Rattle.model.specs.Inlined.{placed_in}
 use Rattle.drawn_graphs.proofs.Graphs.{used_judged}
-use Rattle.drawn_graphs.proofs.Stages.{placed_accepted, placed_refused}
 use Rattle.drawn_graphs.proofs.judge_graph.Goals as goal
-
-pub returns-in_default : goal.returns-in_default
-returns-in_default c =
-    placed_accepted _ _ _ (used_judged _ _ _ c.fill_graph.ensures _ c.judge-verdict.ensures) c.in_default.is
 
 pub returns : goal.returns
 returns c =
-    placed_refused _ _ _ (used_judged _ _ _ c.fill_graph.ensures _ c.judge-verdict.ensures) _ _ c.in-Refused.is c.placed_at-there.ensures
+    let placed : c.map_err.result ≡ placed_in c.args.f c.judge.result = search rules in
+    placed ∙ ap (placed_in c.args.f) (used_judged _ _ _ c.fill_graph.ensures _ c.judge.ensures)

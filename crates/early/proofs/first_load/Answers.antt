@@ -1,15 +1,11 @@
 -- `early::first_load` is the load cost of a cold function.
 use mathlib.Core.Path.{sym, ◌∙◌}
-use Rattle.lookup.proofs.Places.{facts, few_functions}
+use Rattle.lookup.proofs.Places.{facts}
 use Rattle.early.specs.Early.{first_load}
-use native.Mathlib.Omega.{arith}
 use Rattle.early.proofs.first_load.Goals as goal
 
-pub has_bit-requires : goal.has_bit-requires
-has_bit-requires c = omega (arith, few_functions _ (facts _ c.requires.fact_1))
-
-pub load_of-requires : goal.load_of-requires
-load_of-requires c = record { fact_1 = facts _ c.requires.fact_1; fact_2 = c.requires.fact_2 }
+pub load_of-requires-clause-fact_1 : goal.load_of-requires-clause-fact_1
+load_of-requires-clause-fact_1 c = facts _ c.requires.fact_1
 
 pub returns-then-has_bit : goal.returns-then-has_bit
 unfolding first_load

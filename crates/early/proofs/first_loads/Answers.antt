@@ -12,11 +12,11 @@ pub loop-f-init : goal.loop-f-init
 unfolding total
 loop-f-init c = record { within = omega arith; is = refl }
 
-pub sum_of_cycles-loads-requires : goal.sum_of_cycles-loads-requires
-sum_of_cycles-loads-requires c = omega (arith, loads_fit _ c.requires _ c.loop-f.invariant (omega arith) c.first_load.ensures)
+pub add-loads-requires : goal.add-loads-requires
+add-loads-requires c = omega (arith, loads_fit _ c.requires _ c.loop-f.invariant (omega arith) c.first_load.ensures)
 
 pub loop-f-preserved : goal.loop-f-preserved
-loop-f-preserved c = turn ◌+◌ (total_more _) c.loop-f.invariant (omega arith) c.first_load.ensures c.sum_of_cycles-loads.ensures
+loop-f-preserved c = turn ◌+◌ (total_more _) c.loop-f.invariant (omega arith) c.first_load.ensures c.add-loads.ensures
 
 pub returns : goal.returns
 unfolding first_loads first_load

@@ -1,5 +1,4 @@
 -- `early::first_loads` adds up the first loads of the functions passed.
-use Prim.Native.Nat.{◌-◌}
 use Rattle.model.specs.Numbers.{problem_of}
 use Rattle.model.specs.Costs.{total}
 use Rattle.regions.proofs.Sums.{Upto}
@@ -9,6 +8,3 @@ use Rattle.early.proofs.first_loads.Given as goal
 
 abbrev pub invariant-loop-f : goal.invariant-loop-f
 invariant-loop-f l = Upto (λ n. total n (first_load (problem_of l.l) (has l.functions))) (problem_of l.l).function_count l.f l.loads.0
-
-abbrev pub decreases-loop-f : goal.decreases-loop-f
-decreases-loop-f l = l.count - l.f

@@ -1,54 +1,19 @@
+-- `check_edges` judges a run of edges.
 use mathlib.Core.Path.{refl}
-use native.Mathlib.Omega.{arith}
-use borrow.Author.Tests.{not-false}
-use Rattle.edge_runs.proofs.Edges.{between, edge_room_lem}
-use Rattle.edge_runs.proofs.EdgesChecked.{none_checked, started, ended, turn}
+use Rattle.edge_runs.proofs.EdgesChecked.{none_checked, started, turn, ended, all_checked}
 use Rattle.edge_runs.proofs.check_edges.Goals as goal
 
 pub returns-then-not-opens : goal.returns-then-not-opens
 returns-then-not-opens c = none_checked _ c.requires
 
 pub loop-run-init : goal.loop-run-init
-loop-run-init c = started c.requires (c.opens.ensures (not-false _ c.if-not-opens.false-raw)) refl
-
-pub overflow_mul-place : goal.overflow_mul-place
-overflow_mul-place c = omega (arith, (edge_room_lem _ _ c.loop-run.invariant.done.valid))
-
-pub overflow_add-place : goal.overflow_add-place
-overflow_add-place c = omega (arith, (edge_room_lem _ _ c.loop-run.invariant.done.valid))
-
-pub offset_bounds-numbers-place : goal.offset_bounds-numbers-place
-offset_bounds-numbers-place c = omega (arith, (edge_room_lem _ _ c.loop-run.invariant.done.valid))
-
-pub bounds-numbers-place : goal.bounds-numbers-place
-bounds-numbers-place c = omega (arith, (edge_room_lem _ _ c.loop-run.invariant.done.valid))
-
-pub overflow_add-to : goal.overflow_add-to
-overflow_add-to c = omega (arith, (edge_room_lem _ _ c.loop-run.invariant.done.valid))
-
-pub offset_bounds-numbers-place-in-loop-run : goal.offset_bounds-numbers-place-in-loop-run
-offset_bounds-numbers-place-in-loop-run c = omega (arith, (edge_room_lem _ _ c.loop-run.invariant.done.valid))
-
-pub bounds-numbers-place-in-loop-run : goal.bounds-numbers-place-in-loop-run
-bounds-numbers-place-in-loop-run c = omega (arith, (edge_room_lem _ _ c.loop-run.invariant.done.valid))
-
-pub follows-requires : goal.follows-requires
-follows-requires c = (omega (arith, c.loop-run.invariant.late), omega (arith, (edge_room_lem _ _ c.loop-run.invariant.done.valid)))
+loop-run-init c = started c.requires (c.if-not-opens.ensures refl) refl
 
 pub returns-then-not-follows : goal.returns-then-not-follows
-returns-then-not-follows c = ended (c.opens.ensures (not-false _ c.if-not-opens.false-raw)) c.loop-run.invariant
-
-pub overflow_add-run : goal.overflow_add-run
-overflow_add-run c = omega (arith, c.loop-run-test.true)
-
-pub loop-run-smaller : goal.loop-run-smaller
-loop-run-smaller c = omega (arith, c.loop-run-test.true)
+returns-then-not-follows c = ended c.loop-run.invariant
 
 pub loop-run-preserved : goal.loop-run-preserved
-loop-run-preserved c =
-    let running = c.loop-run.invariant in
-    turn running
-    (between (omega (arith, running.late)) (omega (arith, c.loop-run-test.true)) running.here running.few (c.follows.ensures (not-false _ c.if-not-follows.false-raw)))
+loop-run-preserved c = turn c.loop-run.invariant c.loop-run-test.true (c.if-not-follows.ensures refl)
 
 pub returns : goal.returns
-returns c = ended (c.opens.ensures (not-false _ c.if-not-opens.false-raw)) c.loop-run.invariant
+returns c = all_checked c.loop-run.invariant c.loop-run-test.false

@@ -1,38 +1,23 @@
-use mathlib.Core.Path.{sym, ◌∙◌}
-use Rattle.edges.proofs.Words.{wrong_edge_lem, returned_none, returned_more, answers_wrong, answers_returns}
+use Rattle.edges.proofs.Words.{wrong_told, returned_none, returned_more, answers_wrong, answers_returns}
 use native.Mathlib.Omega.{arith}
 use Rattle.model.proofs.Cases.{all_done}
 use Rattle.model.proofs.Search.{start, miss}
-use Rattle.lookup.proofs.Places.{few_vertices, from_below, to_below}
 use Rattle.edges.proofs.judge_edges.Goals as goal
 
 pub loop-i-init : goal.loop-i-init
 loop-i-init c = (start _ _, returned_none _ _ _)
 
-pub offset_bounds-marks-to : goal.offset_bounds-marks-to
-offset_bounds-marks-to c = omega (arith, c.edge_to-to.ensures, to_below _ c.requires.fact_1 c.loop-i.i (omega arith), few_vertices _ c.requires.fact_1)
-
-pub bounds-marks-to : goal.bounds-marks-to
-bounds-marks-to c = omega (arith, c.edge_to-to.ensures, to_below _ c.requires.fact_1 c.loop-i.i (omega arith), few_vertices _ c.requires.fact_1)
-
-pub offset_bounds-around-from : goal.offset_bounds-around-from
-offset_bounds-around-from c = omega (arith, c.edge_from-from.ensures, from_below _ c.requires.fact_1 c.loop-i.i (omega arith), few_vertices _ c.requires.fact_1)
-
-pub bounds-around-from : goal.bounds-around-from
-bounds-around-from c = (omega (arith, c.edge_from-from.ensures, from_below _ c.requires.fact_1 c.loop-i.i (omega arith), few_vertices _ c.requires.fact_1))
-
-pub offset_bounds-around-to : goal.offset_bounds-around-to
-offset_bounds-around-to c = omega (arith, c.edge_to-to.ensures, to_below _ c.requires.fact_1 c.loop-i.i (omega arith), few_vertices _ c.requires.fact_1)
-
-pub bounds-around-to : goal.bounds-around-to
-bounds-around-to c = (omega (arith, c.edge_to-to.ensures, to_below _ c.requires.fact_1 c.loop-i.i (omega arith), few_vertices _ c.requires.fact_1))
-
 pub returns-then-is_wrong : goal.returns-then-is_wrong
-returns-then-is_wrong c = answers_wrong _ _ _ _ c.loop-i.invariant.0 (omega arith) ((sym (wrong_edge_lem c.requires.fact_2 c.requires.fact_3 _ _ (omega (arith, c.edge_from-from.ensures, from_below _ c.requires.fact_1 c.loop-i.i (omega arith))) (omega (arith, c.edge_to-to.ensures, to_below _ c.requires.fact_1 c.loop-i.i (omega arith))) _ c.edge_from-from.ensures c.edge_to-to.ensures c.is_wrong.ensures)) ∙ c.if-is_wrong.true)
+returns-then-is_wrong c =
+    answers_wrong _ _ _ _ c.loop-i.invariant.0 (omega arith)
+    (wrong_told c.requires.fact_1 c.requires.fact_2 c.requires.fact_3 _ (omega arith) _ _ c.edge_from-from.ensures c.edge_to-to.ensures c.is_wrong.ensures c.if-is_wrong.true)
 
 pub loop-i-preserved : goal.loop-i-preserved
-loop-i-preserved c =
-    (miss c.loop-i.invariant.0 (omega arith) ((sym (wrong_edge_lem c.requires.fact_2 c.requires.fact_3 _ _ (omega (arith, c.edge_from-from.ensures, from_below _ c.requires.fact_1 c.loop-i.i (omega arith))) (omega (arith, c.edge_to-to.ensures, to_below _ c.requires.fact_1 c.loop-i.i (omega arith))) _ c.edge_from-from.ensures c.edge_to-to.ensures c.is_wrong.ensures)) ∙ c.if-is_wrong.false), returned_more _ _ _ _ c.loop-i.invariant.1 c.edge_from-from.ensures c.edge_to-to.ensures)
+loop-i-preserved c = (
+  miss c.loop-i.invariant.0 (omega arith)
+      (wrong_told c.requires.fact_1 c.requires.fact_2 c.requires.fact_3 _ (omega arith) _ _ c.edge_from-from.ensures c.edge_to-to.ensures c.is_wrong.ensures c.if-is_wrong.false),
+  returned_more _ _ _ c.loop-i.i c.loop-i.invariant.1 c.edge_from-from.ensures c.edge_to-to.ensures,
+)
 
 pub returns : goal.returns
 returns c =

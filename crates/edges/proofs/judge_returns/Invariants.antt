@@ -1,5 +1,4 @@
 -- `edges::judge_returns` refuses at the lowest loop that no edge returns to.
-use Prim.Native.Nat.{◌-◌}
 use lib.ListN.{length}
 use Rattle.model.specs.Graph.{loop, no_return}
 use Rattle.model.proofs.Search.{Searched}
@@ -8,6 +7,3 @@ use Rattle.edges.proofs.judge_returns.Given as goal
 
 abbrev pub invariant-loop-j : goal.invariant-loop-j
 invariant-loop-j l = Searched (length (loops_in l.l)) (λ k. no_return (edges_in l.l) (loop (loops_in l.l) k)) l.j
-
-abbrev pub decreases-loop-j : goal.decreases-loop-j
-decreases-loop-j l = l.count - l.j

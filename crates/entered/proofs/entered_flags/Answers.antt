@@ -8,25 +8,15 @@ pub edge_count-count-requires : goal.edge_count-count-requires
 edge_count-count-requires c = facts _ c.requires
 
 pub loop-i-init : goal.loop-i-init
-loop-i-init c = (omega arith, none_marked _)
+loop-i-init c = none_marked _
 
-pub edge_to-to-requires : goal.edge_to-to-requires
-edge_to-to-requires c = record { fact_1 = facts _ c.requires; fact_2 = (omega (arith, c.loop-i-test.true, c.edge_count-count.ensures)) }
-
-pub bounds-flags-to : goal.bounds-flags-to
-bounds-flags-to c = omega (arith, c.edge_to-to.ensures, to_small _ (facts _ c.requires) c.loop-i.i (omega (arith, c.loop-i-test.true, c.edge_count-count.ensures)))
-
-pub is_crossing-requires : goal.is_crossing-requires
-is_crossing-requires c = record { fact_1 = c.requires; fact_2 = (omega (arith, c.loop-i-test.true, c.edge_count-count.ensures)) }
-
-pub bounds-flags-to-in-loop-i : goal.bounds-flags-to-in-loop-i
-bounds-flags-to-in-loop-i c = omega (arith, c.edge_to-to.ensures, to_small _ (facts _ c.requires) c.loop-i.i (omega (arith, c.loop-i-test.true, c.edge_count-count.ensures)))
+pub edge_to-to-requires-clause-fact_1 : goal.edge_to-to-requires-clause-fact_1
+edge_to-to-requires-clause-fact_1 c = facts _ c.requires
 
 pub loop-i-preserved : goal.loop-i-preserved
 loop-i-preserved c =
-    let taken = c.loop-i-test.true in
-    (omega arith, one_marked _ _ _ _ c.loop-i.invariant.1 c.is_crossing.ensures c.edge_to-to.ensures (omega (arith, c.edge_to-to.ensures, to_small _ (facts _ c.requires) c.loop-i.i (omega (arith, c.loop-i-test.true, c.edge_count-count.ensures)))) c.flag_after.ensures)
+    one_marked _ _ _ _ c.loop-i.invariant c.is_crossing.ensures c.edge_to-to.ensures (omega (arith, c.edge_to-to.ensures, to_small _ (facts _ c.requires) c.loop-i.i (omega (arith, c.loop-i-test.true, c.edge_count-count.ensures)))) c.flag_after.ensures
 
 pub returns : goal.returns
 returns c =
-    all_marked _ _ (all_done _ _ _ c.loop-i.invariant.0 c.loop-i-test.false c.edge_count-count.ensures) c.loop-i.invariant.1
+    all_marked _ _ (all_done _ _ _ (omega arith) c.loop-i-test.false c.edge_count-count.ensures) c.loop-i.invariant

@@ -1,11 +1,7 @@
 -- `entered::entered_flags` flags what the edges passed enter.
-use Prim.Native.Nat.{◌-◌, ◌≤◌}
 use Rattle.model.specs.Numbers.{problem_of}
 use Rattle.entered.proofs.Marking.{Marked}
 use Rattle.entered.proofs.entered_flags.Given as goal
 
 abbrev pub invariant-loop-i : goal.invariant-loop-i
-invariant-loop-i l = (l.i ≤ l.count) × Marked (problem_of l.l) l.i l.flags
-
-abbrev pub decreases-loop-i : goal.decreases-loop-i
-decreases-loop-i l = l.count - l.i
+invariant-loop-i l = Marked (problem_of l.l) l.i l.flags

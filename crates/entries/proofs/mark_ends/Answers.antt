@@ -7,23 +7,14 @@ use Rattle.lookup.specs.Lists.{edges_in}
 use Rattle.entries.proofs.mark_ends.Goals as goal
 
 pub loop-i-init : goal.loop-i-init
-loop-i-init c = (omega arith, c.requires.fact_2)
-
-pub bounds-entered-to : goal.bounds-entered-to
-bounds-entered-to c = (omega (arith, c.edge_to-to.ensures, to_small _ c.requires.fact_1 c.loop-i.i (omega arith)))
-
-pub bounds-entered-to-in-loop-i : goal.bounds-entered-to-in-loop-i
-bounds-entered-to-in-loop-i c = (omega (arith, c.edge_to-to.ensures, to_small _ c.requires.fact_1 c.loop-i.i (omega arith)))
-
-pub bounds-exited-from : goal.bounds-exited-from
-bounds-exited-from c = (omega (arith, c.edge_from-from.ensures, from_small _ c.requires.fact_1 c.loop-i.i (omega arith)))
+loop-i-init c = c.requires.fact_2
 
 pub loop-i-preserved : goal.loop-i-preserved
-loop-i-preserved c = (
-  omega arith,
-  more_marked c.loop-i.invariant.1 c.edge_from-from.ensures c.edge_to-to.ensures c.entry_mark.ensures (omega (arith, c.edge_from-from.ensures, from_small _ c.requires.fact_1 c.loop-i.i (omega arith))) (omega (arith, c.edge_to-to.ensures, to_small _ c.requires.fact_1 c.loop-i.i (omega arith))),
-)
+loop-i-preserved c =
+    more_marked c.loop-i.invariant c.edge_from-from.ensures c.edge_to-to.ensures c.entry_mark.ensures
+    (omega (arith, c.edge_from-from.ensures, from_small _ c.requires.fact_1 c.loop-i.i (omega arith)))
+    (omega (arith, c.edge_to-to.ensures, to_small _ c.requires.fact_1 c.loop-i.i (omega arith)))
 
 pub returns : goal.returns
 returns c =
-    let all : c.loop-i.i ≡ length (edges_in c.args.l.now) = omega (arith, c.loop-i.invariant.0) in rw all at c.loop-i.invariant.1
+    let all : c.loop-i.i ≡ length (edges_in c.args.l.now) = omega arith in rw all at c.loop-i.invariant

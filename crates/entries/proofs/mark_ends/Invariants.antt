@@ -1,12 +1,7 @@
 -- `entries::mark_ends` meets its contract: the first i edges have made their marks.
-use Prim.Native.Nat.{◌-◌, ◌≤◌}
-use lib.ListN.{length}
 use Rattle.lookup.specs.Lists.{edges_in}
 use Rattle.entries.specs.Marks.{EndsMarked}
 use Rattle.entries.proofs.mark_ends.Given as goal
 
 abbrev pub invariant-loop-i : goal.invariant-loop-i
-invariant-loop-i l = (l.i ≤ length (edges_in l.l)) × EndsMarked (edges_in l.l) l.i l.entered l.exited
-
-abbrev pub decreases-loop-i : goal.decreases-loop-i
-decreases-loop-i l = l.count - l.i
+invariant-loop-i l = EndsMarked (edges_in l.l) l.i l.entered l.exited

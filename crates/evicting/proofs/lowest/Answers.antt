@@ -1,6 +1,5 @@
 use native.Mathlib.Omega.{arith}
 use Rattle.model.proofs.Cases.{all_done}
-use Rattle.lookup.proofs.Places.{facts, few_vertices}
 use Rattle.evicting.proofs.Naming.{lowest_none, lowest_more, lowest_all}
 use Rattle.evicting.proofs.lowest.Goals as goal
 
@@ -10,17 +9,10 @@ loop-u-init c = (omega arith, lowest_none _ _ _ _)
 pub named-requires : goal.named-requires
 named-requires c = record { fact_1 = c.requires; fact_2 = omega (arith, c.vertex_count-count.ensures, c.loop-u-test.true) }
 
-pub overflow_add-u : goal.overflow_add-u
-overflow_add-u c =
-    omega (arith, c.loop-u-test.true, c.vertex_count-count.ensures, few_vertices _ (facts _ c.requires.checked))
-
-pub loop-u-smaller : goal.loop-u-smaller
-loop-u-smaller c = omega (arith, c.loop-u-test.true)
-
 pub loop-u-preserved : goal.loop-u-preserved
 loop-u-preserved c =
     let (within, least) = c.loop-u.invariant in
-    (omega (arith, c.loop-u-test.true), lowest_more _ _ _ _ _ _ _ least c.named.ensures _ c.smaller-least.ensures)
+    (omega (arith, c.loop-u-test.true), lowest_more _ _ _ _ _ _ _ least c.named.ensures _ (omega arith))
 
 pub returns : goal.returns
 returns c =

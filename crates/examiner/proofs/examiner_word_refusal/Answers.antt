@@ -23,5 +23,5 @@ returns c =
     let a = c.args in
     let t =
     said_told (λ A. on_refusal a.number a.place) a.text.now a.answer.now _
-    (λ A said unknown. refusal_said a.number a.place said unknown _ c.if-number-lt1.false c.if-number-gt-LAST_REFUSAL.false c.refusal_of-refusal.ensures) (c.word_told.ensures.value, (c.word_told.ensures.answer_after, c.word_told.ensures.text_after)) in
+    (λ A said unknown. refusal_said a.number a.place said unknown _ c.if-number-lt1.false c.if-number-gt-LAST_REFUSAL.false c.numbered-refusal.ensures) (c.word_told.ensures.value, (c.word_told.ensures.answer_after, c.word_told.ensures.text_after)) in
     record { value = t.0; answer_after = t.1.0; text_after = t.1.1 }

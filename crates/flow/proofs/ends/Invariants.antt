@@ -1,11 +1,7 @@
 -- `ends` notes for each edge that it is the last of its start so far.
-use Prim.Native.Nat.{◌-◌, ◌≤◌}
 use Rattle.model.specs.Numbers.{problem_of}
 use Rattle.flow.specs.Starts.{Ends}
 use Rattle.flow.proofs.ends.Given as goal
 
 abbrev pub invariant-loop-i : goal.invariant-loop-i
-invariant-loop-i l = (l.i ≤ l.count) × Ends (problem_of l.l) l.i l.behind
-
-abbrev pub decreases-loop-i : goal.decreases-loop-i
-decreases-loop-i l = l.count - l.i
+invariant-loop-i l = Ends (problem_of l.l) l.i l.behind

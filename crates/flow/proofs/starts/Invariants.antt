@@ -1,13 +1,9 @@
 -- `starts` goes from each vertex to the next: its edges begin behind the last one from a lower vertex.
-use Prim.Native.Nat.{◌≤◌, ◌-◌}
-use mathlib.Core.Path.{◌≡◌}
+use Prim.Native.Nat.{◌≤◌}
 use Rattle.model.specs.Numbers.{problem_of}
 use Rattle.flow.proofs.Begins.{Found}
 use Rattle.model.specs.Places as places
 use Rattle.flow.proofs.starts.Given as goal
 
 abbrev pub invariant-loop-u : goal.invariant-loop-u
-invariant-loop-u l = (l.u ≤ l.count) × (l.count ≤ places.most_vertices) × (l.count ≡ (problem_of l.l).vertex_count) × Found (problem_of l.l) l.initial.begins l.u l.begins
-
-abbrev pub decreases-loop-u : goal.decreases-loop-u
-decreases-loop-u l = l.count - l.u
+invariant-loop-u l = record { few : l.u-end ≤ places.most_vertices; found : Found (problem_of l.l) l.initial.begins l.u l.begins }

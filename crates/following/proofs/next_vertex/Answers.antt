@@ -1,11 +1,9 @@
-use Prim.Native.Nat.{◌+◌, ◌*◌, ◌<◌}
 use mathlib.Core.Path.{sym, subst}
 use native.Mathlib.Omega.{arith}
 use Rattle.lookup.proofs.Places.{facts}
 use Rattle.flow.proofs.Edges.{start_small}
-use Rattle.ways.specs.Ways.{most_states}
 use Rattle.following.specs.Following.{Lowest}
-use Rattle.following.proofs.Seeking.{from_vertex, seek_begun, seek_here, seek_on, sought}
+use Rattle.following.proofs.Seeking.{from_vertex, seek_begun, seek_here, seek_place, seek_on, sought}
 use Rattle.following.proofs.next_vertex.Goals as goal
 
 pub offset_bounds-begins-u : goal.offset_bounds-begins-u
@@ -21,16 +19,16 @@ pub edge_to-w-requires : goal.edge_to-w-requires
 edge_to-w-requires c = let (edges, seeking) = c.loop-u.invariant in record { fact_1 = facts _ edges.checked; fact_2 = (seek_here edges _ _ _ seeking).here }
 
 pub overflow_mul-w : goal.overflow_mul-w
-overflow_mul-w c = (let place_small : 2 * c.edge_to-w.result + c.args.t < most_states = let (edges, seeking) = c.loop-u.invariant in omega (arith, c.edge_to-w.ensures, (seek_here edges _ _ _ seeking).end_small, c.requires.low) in omega (arith, place_small))
+overflow_mul-w c = let (edges, seeking) = c.loop-u.invariant in omega (arith, seek_place edges _ _ _ seeking c.edge_to-w.ensures c.requires.low)
 
 pub overflow_add-w : goal.overflow_add-w
-overflow_add-w c = (let place_small : 2 * c.edge_to-w.result + c.args.t < most_states = let (edges, seeking) = c.loop-u.invariant in omega (arith, c.edge_to-w.ensures, (seek_here edges _ _ _ seeking).end_small, c.requires.low) in omega (arith, place_small))
+overflow_add-w c = let (edges, seeking) = c.loop-u.invariant in omega (arith, seek_place edges _ _ _ seeking c.edge_to-w.ensures c.requires.low)
 
 pub offset_bounds-steps-w : goal.offset_bounds-steps-w
-offset_bounds-steps-w c = (let place_small : 2 * c.edge_to-w.result + c.args.t < most_states = let (edges, seeking) = c.loop-u.invariant in omega (arith, c.edge_to-w.ensures, (seek_here edges _ _ _ seeking).end_small, c.requires.low) in omega (arith, place_small))
+offset_bounds-steps-w c = let (edges, seeking) = c.loop-u.invariant in omega (arith, seek_place edges _ _ _ seeking c.edge_to-w.ensures c.requires.low)
 
 pub bounds-steps-w : goal.bounds-steps-w
-bounds-steps-w c = (let place_small : 2 * c.edge_to-w.result + c.args.t < most_states = let (edges, seeking) = c.loop-u.invariant in omega (arith, c.edge_to-w.ensures, (seek_here edges _ _ _ seeking).end_small, c.requires.low) in place_small)
+bounds-steps-w c = let (edges, seeking) = c.loop-u.invariant in omega (arith, seek_place edges _ _ _ seeking c.edge_to-w.ensures c.requires.low)
 
 pub returns-then-steps-w : goal.returns-then-steps-w
 returns-then-steps-w c =

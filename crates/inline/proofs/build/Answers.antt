@@ -1,7 +1,6 @@
 -- `build` stops at a count that passes its limit, and else stores the one problem's parts one after another.
-use mathlib.Core.Path.{refl}
 use Rattle.copies.proofs.Vertices.{may_copy}
-use Rattle.links.proofs.Made.{made_inside, made_rowed}
+use Rattle.links.proofs.Made.{made_inside, made_few, made_table, made_rowed}
 use Rattle.inline.proofs.Built.{rows_passed, edges_passed, loops_passed, built}
 use Rattle.inline.proofs.build.Goals as goal
 
@@ -10,7 +9,11 @@ returns-then-count-gt-MOST_VERTICES c = rows_passed _ c.requires.fact_1 _ _ c.ro
 
 pub fill_places-requires : goal.fill_places-requires
 fill_places-requires c =
-    record { fact_1 = made_inside _ _ _ c.requires.fact_1 c.rows_of-made.ensures c.if-count-gt-MOST_VERTICES.false; fact_2 = c.if-count-gt-MOST_VERTICES.false; fact_3 = refl }
+    record {
+      fact_1 = made_inside _ _ _ c.requires.fact_1 c.rows_of-made.ensures c.if-count-gt-MOST_VERTICES.false;
+      fact_2 = made_few _ _ _ c.requires.fact_1 c.rows_of-made.ensures c.if-count-gt-MOST_VERTICES.false;
+      fact_3 = made_table _ _ _ c.requires.fact_1 c.rows_of-made.ensures c.if-count-gt-MOST_VERTICES.false;
+    }
 
 pub put_vertices-requires : goal.put_vertices-requires
 put_vertices-requires c =

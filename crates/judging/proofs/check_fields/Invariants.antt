@@ -1,4 +1,4 @@
--- `check_fields` judges as `checkFrom` does. The invariant: what is left to judge from the present field is what was to be judged from the first,
+-- `check_fields` judges as `check_from` does. The invariant: what is left to judge from the present field is what was to be judged from the first,
 -- the field is valid, and no more than five bytes a number are counted.
 use Prim.Native.Nat.{◌-◌}
 use Rattle.model.specs.File.{number_count}

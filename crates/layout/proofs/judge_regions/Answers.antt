@@ -3,7 +3,6 @@ use native.Mathlib.Omega.{arith}
 use borrow.Author.Tests.{lt-ltb, le-ltb}
 use Rattle.model.specs.declared.Refusal.TheVariants.{UnknownRegion}
 use Rattle.model.specs.Limits.{most_regions}
-use Rattle.model.specs.Layouts.{region_of}
 use Rattle.model.proofs.Search.{start, miss, broken_hit, broken_none}
 use Rattle.layout.proofs.judge_regions.Goals as goal
 

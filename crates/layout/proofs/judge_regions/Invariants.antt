@@ -9,6 +9,3 @@ use Rattle.layout.proofs.judge_regions.Given as goal
 
 abbrev pub invariant-loop-f : goal.invariant-loop-f
 invariant-loop-f l = Searched (problem_of l.l).function_count (λ g. ltb (most_regions - 1) (region_of l.layout g)) l.f
-
-abbrev pub decreases-loop-f : goal.decreases-loop-f
-decreases-loop-f l = l.count - l.f

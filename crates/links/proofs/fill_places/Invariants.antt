@@ -1,10 +1,6 @@
 -- `fill_places` fills the table from the last row down. The loop's invariant: the rows from i on are placed.
-use lib.ListN.{take}
 use Rattle.links.proofs.Spots.{PlacedFrom}
 use Rattle.links.proofs.fill_places.Given as goal
 
 abbrev pub invariant-loop-i : goal.invariant-loop-i
-invariant-loop-i l = PlacedFrom (take l.count l.rows) l.i l.table
-
-abbrev pub decreases-loop-i : goal.decreases-loop-i
-decreases-loop-i l = l.i
+invariant-loop-i l = PlacedFrom l.rows l.i l.table

@@ -3,11 +3,8 @@ use mathlib.Core.Path.{sym, ◌∙◌}
 use native.Mathlib.Omega.{arith}
 use borrow.Author.Tests.{eq-eqb, ne_eqb}
 use Rattle.model.specs.Drawings.{drawn_loops}
-use Rattle.model.proofs.Search.{start, miss, hit, none}
+use Rattle.model.proofs.Search.{miss, hit, none}
 use Rattle.links.proofs.headed.Goals as goal
-
-pub loop-j-init : goal.loop-j-init
-loop-j-init c = start _ _
 
 pub loop_header-requires : goal.loop_header-requires
 loop_header-requires c =
@@ -18,9 +15,6 @@ pub returns-then-loop_header-v : goal.returns-then-loop_header-v
 returns-then-loop_header-v c =
     let below : c.loop-j.j < drawn_loops c.args.d.now c.args.f = omega (arith, c.loop-j-test.true, c.loop_count-n.ensures) in
     hit c.loop-j.invariant below (eq-eqb _ _ (sym c.loop_header.ensures ∙ c.if-loop_header-v.true))
-
-pub overflow_add-j : goal.overflow_add-j
-overflow_add-j c = omega (arith, c.loop-j-test.true, c.loop_count-n.ensures, c.requires.fact_2)
 
 pub loop-j-preserved : goal.loop-j-preserved
 loop-j-preserved c =

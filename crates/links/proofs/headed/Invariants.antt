@@ -1,5 +1,5 @@
 -- `headed` goes on to the first loop whose header is the vertex. The loop's invariant: none of the first j is.
-use Prim.Native.Nat.{ℕ, ◌-◌}
+use Prim.Native.Nat.{ℕ}
 use mathlib.Core.Bool.{Bool}
 use mathlib.Core.List.{List}
 use lib.Dec.{eqb}
@@ -12,6 +12,3 @@ heads d f v j = eqb (drawn_loop d f j).header v
 
 abbrev pub invariant-loop-j : goal.invariant-loop-j
 invariant-loop-j l = Searched (drawn_loops l.d l.f) (heads l.d l.f l.v) l.j
-
-abbrev pub decreases-loop-j : goal.decreases-loop-j
-decreases-loop-j l = l.n - l.j

@@ -8,5 +8,5 @@ use Rattle.links.proofs.put_edge.Goals as goal
 pub returns-then-k-lt-MOST_EDGES : goal.returns-then-k-lt-MOST_EDGES
 returns-then-k-lt-MOST_EDGES c = adds_edge _ _ _ _ (search rules)
 
-pub returns : goal.returns
-returns c = adds_over places.most_edges places.from edge_numbers _ _ _ (search rules)
+pub returns-else-k-lt-MOST_EDGES : goal.returns-else-k-lt-MOST_EDGES
+returns-else-k-lt-MOST_EDGES c = adds_over places.most_edges places.from edge_numbers _ _ _ (search rules)

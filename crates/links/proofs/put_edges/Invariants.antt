@@ -1,7 +1,7 @@
 -- `put_edges` puts the edges row by row. The loop's invariant: those of the first i rows are put.
-use Prim.Native.Nat.{ℕ, ◌-◌}
+use Prim.Native.Nat.{ℕ}
 use mathlib.Core.List.{List}
-use lib.ListN.{length, take}
+use lib.ListN.{length}
 use Rattle.model.specs.declared.Edge.{Edge}
 use Rattle.model.specs.declared.Row.{Row}
 use Rattle.model.specs.Places as places
@@ -16,7 +16,4 @@ edges_of_row d rows i = edges_from d rows (called_by d (row_at rows i).function 
 
 abbrev pub invariant-loop-i : goal.invariant-loop-i
 invariant-loop-i l =
-    Through places.most_edges places.from edge_numbers (edges_of_row l.d (take l.count l.rows)) (length (take l.count l.rows)) l.initial.numbers l.i l.numbers l.k
-
-abbrev pub decreases-loop-i : goal.decreases-loop-i
-decreases-loop-i l = l.count - l.i
+    Through places.most_edges places.from edge_numbers (edges_of_row l.d l.rows) (length l.rows) l.initial.numbers l.i l.numbers l.k

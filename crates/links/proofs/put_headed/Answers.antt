@@ -9,38 +9,30 @@ use Rattle.model.specs.Numbers.{loop_numbers}
 use Rattle.model.specs.Drawings.{drawn_loops}
 use Rattle.links.specs.Put.{AddsLoops}
 use Rattle.links.proofs.Adding.{adds_none, adds_same}
-use Rattle.links.proofs.Drawn.{row_drawn, row_function, row_first}
+use Rattle.links.proofs.Drawn.{row_drawn, row_first}
 use Rattle.links.proofs.Headers.{headed_read, none_headed}
 use Rattle.links.proofs.put_headed.Goals as goal
+use Rattle.links.proofs.put_headed.Goals.{Then-j-loop_count}
+
+below : (c : Then-j-loop_count) → c.headed-j.result < drawn_loops c.args.d.now c.args.here.function
+below c = omega (arith, c.if-j-loop_count.true, c.loop_count.ensures)
 
 -- What is put is what the row has.
 abbrev put : (l : List ℕ) (k : ℕ) (xs ys : List Loop) (l' : List ℕ) (k' : ℕ) → ys ≡ xs → AddsLoops l k xs l' k' → AddsLoops l k ys l' k'
 put = adds_same places.most_loops places.header loop_numbers
 
-pub headed-j-requires : goal.headed-j-requires
-headed-j-requires c = record { fact_1 = (row_function _ c.requires.fact_1 _ _ (c.requires.fact_2)); fact_2 = (row_drawn _ c.requires.fact_1 _ _ (c.requires.fact_2)).loops }
-
-pub loop_count-requires : goal.loop_count-requires
-loop_count-requires c = (row_function _ c.requires.fact_1 _ _ (c.requires.fact_2))
-
-pub loop_last-requires : goal.loop_last-requires
-loop_last-requires c = ((row_function _ c.requires.fact_1 _ _ (c.requires.fact_2)), (let few : (c.headed-j.result) < places.most_loops = (let below : (c.headed-j.result) < drawn_loops c.args.d.now c.args.here.function = omega (arith, c.if-j-loop_count.true, c.loop_count.ensures) in omega (arith, below, (row_drawn _ c.requires.fact_1 _ _ (c.requires.fact_2)).loops)) in few))
-
 pub last_in-last-requires : goal.last_in-last-requires
 last_in-last-requires c =
-    record { fact_1 = row_first _ c.requires.fact_1 _ _ (c.requires.fact_2) c.requires.fact_3; fact_2 = omega (arith, c.loop_last.ensures, (row_drawn _ c.requires.fact_1 _ _ (c.requires.fact_2)).last (c.headed-j.result) (let below : (c.headed-j.result) < drawn_loops c.args.d.now c.args.here.function = omega (arith, c.if-j-loop_count.true, c.loop_count.ensures) in below), (row_drawn _ c.requires.fact_1 _ _ (c.requires.fact_2)).vertices) }
-
-pub loop_bound-requires : goal.loop_bound-requires
-loop_bound-requires c = ((row_function _ c.requires.fact_1 _ _ (c.requires.fact_2)), (let few : (c.headed-j.result) < places.most_loops = (let below : (c.headed-j.result) < drawn_loops c.args.d.now c.args.here.function = omega (arith, c.if-j-loop_count.true, c.loop_count.ensures) in omega (arith, below, (row_drawn _ c.requires.fact_1 _ _ (c.requires.fact_2)).loops)) in few))
+    record { fact_1 = row_first _ c.requires.fact_1 _ _ c.requires.fact_2 c.requires.fact_3; fact_2 = omega (arith, c.loop_last.ensures, (row_drawn _ c.requires.fact_1 _ _ c.requires.fact_2).last c.headed-j.result (below (goal.at.last_in-last-requires c).Then-j-loop_count), (row_drawn _ c.requires.fact_1 _ _ c.requires.fact_2).vertices) }
 
 pub returns-then-j-loop_count : goal.returns-then-j-loop_count
 returns-then-j-loop_count c rows placed =
     put _ _ _ _ _ _
-    (headed_read _ rows _ _ (row_drawn _ c.requires.fact_1 _ _ (c.requires.fact_2)) _ c.headed-j.ensures c.args.table.now placed (let below : (c.headed-j.result) < drawn_loops c.args.d.now c.args.here.function = omega (arith, c.if-j-loop_count.true, c.loop_count.ensures) in below) (row_first _ c.requires.fact_1 _ _ (c.requires.fact_2) c.requires.fact_3)
+    (headed_read _ rows _ _ (row_drawn _ c.requires.fact_1 _ _ c.requires.fact_2) _ c.headed-j.ensures c.args.table.now placed (below (goal.at.returns-then-j-loop_count c).Then-j-loop_count) (row_first _ c.requires.fact_1 _ _ c.requires.fact_2 c.requires.fact_3)
     _ _ _ c.loop_last.ensures c.last_in-last.ensures c.loop_bound.ensures)
     c.put_loop.ensures
 
 pub returns : goal.returns
 returns c rows placed =
-    put _ _ _ _ _ _ (none_headed _ rows _ _ (row_drawn _ c.requires.fact_1 _ _ (c.requires.fact_2)) _ c.headed-j.ensures (omega (arith, c.if-j-loop_count.false, c.loop_count.ensures)))
+    put _ _ _ _ _ _ (none_headed _ rows _ _ (row_drawn _ c.requires.fact_1 _ _ c.requires.fact_2) _ c.headed-j.ensures (omega (arith, c.if-j-loop_count.false, c.loop_count.ensures)))
     (adds_none places.most_loops places.header loop_numbers _ _)

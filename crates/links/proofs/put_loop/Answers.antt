@@ -8,5 +8,5 @@ use Rattle.links.proofs.put_loop.Goals as goal
 pub returns-then-k-lt-MOST_LOOPS : goal.returns-then-k-lt-MOST_LOOPS
 returns-then-k-lt-MOST_LOOPS c = adds_loop _ _ _ _ _ (search rules)
 
-pub returns : goal.returns
-returns c = adds_over places.most_loops places.header loop_numbers _ _ _ (search rules)
+pub returns-else-k-lt-MOST_LOOPS : goal.returns-else-k-lt-MOST_LOOPS
+returns-else-k-lt-MOST_LOOPS c = adds_over places.most_loops places.header loop_numbers _ _ _ (search rules)

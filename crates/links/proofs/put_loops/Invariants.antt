@@ -1,7 +1,7 @@
 -- `put_loops` puts the loops row by row. The loop's invariant: those of the first i rows are put.
-use Prim.Native.Nat.{ℕ, ◌-◌}
+use Prim.Native.Nat.{ℕ}
 use mathlib.Core.List.{List, flat_map}
-use lib.ListN.{length, take}
+use lib.ListN.{length}
 use Rattle.model.specs.declared.Loop.{Loop}
 use Rattle.model.specs.declared.Row.{Row}
 use Rattle.model.specs.Places as places
@@ -17,7 +17,4 @@ loops_of_row d rows i = flat_map (around d rows i (row_at rows i)) (loops_of (gr
 
 abbrev pub invariant-loop-i : goal.invariant-loop-i
 invariant-loop-i l =
-    Through places.most_loops places.header loop_numbers (loops_of_row l.d (take l.count l.rows)) (length (take l.count l.rows)) l.initial.numbers l.i l.numbers l.k
-
-abbrev pub decreases-loop-i : goal.decreases-loop-i
-decreases-loop-i l = l.count - l.i
+    Through places.most_loops places.header loop_numbers (loops_of_row l.d l.rows) (length l.rows) l.initial.numbers l.i l.numbers l.k

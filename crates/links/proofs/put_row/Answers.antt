@@ -8,7 +8,6 @@ use Rattle.model.specs.Places as places
 use Rattle.model.specs.Numbers.{edge_numbers}
 use Rattle.links.specs.Put.{AddsEdges}
 use Rattle.links.proofs.Adding.{adds_none, adds_same}
-use Rattle.links.proofs.Drawn.{row_function, row_vertex}
 use Rattle.links.proofs.Rows.{calls, inside, ends, goes_on}
 use Rattle.links.proofs.put_row.Goals as goal
 
@@ -16,19 +15,10 @@ use Rattle.links.proofs.put_row.Goals as goal
 abbrev put : (l : List ℕ) (k : ℕ) (xs ys : List Edge) (l' : List ℕ) (k' : ℕ) → ys ≡ xs → AddsEdges l k xs l' k' → AddsEdges l k ys l' k'
 put = adds_same places.most_edges places.from edge_numbers
 
-pub callee_at-requires : goal.callee_at-requires
-callee_at-requires c = ((row_function _ c.requires.fact_1 _ _ (c.requires.fact_2)), (row_vertex _ c.requires.fact_1 _ _ (c.requires.fact_2)))
-
 pub returns-then-callee_at-ne-NONE : goal.returns-then-callee_at-ne-NONE
 returns-then-callee_at-ne-NONE c rows placed is =
     put _ _ _ _ _ _ (calls _ _ _ _ (λ none. c.if-callee_at-ne-NONE.true (c.callee_at.ensures ∙ none)))
     c.put_edge.ensures
-
-pub overflow_add-v : goal.overflow_add-v
-overflow_add-v c = omega (arith, (row_vertex _ c.requires.fact_1 _ _ (c.requires.fact_2)))
-
-pub vertex_count-requires : goal.vertex_count-requires
-vertex_count-requires c = (row_function _ c.requires.fact_1 _ _ (c.requires.fact_2))
 
 pub returns-then-v-vertex_count : goal.returns-then-v-vertex_count
 returns-then-v-vertex_count c rows placed is =

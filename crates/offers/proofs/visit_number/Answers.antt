@@ -5,8 +5,8 @@ use Rattle.offers.proofs.visit_number.Goals as goal
 pub returns-then-v-eq0 : goal.returns-then-v-eq0
 returns-then-v-eq0 c = visit_first _ _ _ _ _ c.if-v-eq0.true
 
-pub best_into-requires : goal.best_into-requires
-best_into-requires c = record { fact_1 = c.requires.fact_1; fact_2 = c.requires.fact_2; fact_3 = c.requires.fact_3.most _; fact_4 = c.requires.fact_4 }
+pub best_into-requires-clause-fact_3 : goal.best_into-requires-clause-fact_3
+best_into-requires-clause-fact_3 c = c.requires.fact_3.most _
 
 pub returns : goal.returns
 returns c = visit_later _ _ _ _ _ c.if-v-eq0.false c.best_into.ensures

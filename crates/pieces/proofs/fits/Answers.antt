@@ -1,19 +1,15 @@
 -- `fits` is the test of a further digit.
-use Rattle.pieces.proofs.Tests.{fits_low, fits_high, fits_zero, fits_past, fits_last}
-use borrow.Author.Rules.{rules}
+use Rattle.std.proofs.Common.{inl, inr}
+use borrow.Author.Tests.{le-leb, lt-leb}
+use Rattle.pieces.proofs.Tests.{is_digit, no_digit, fits_none, fits_zero, fits_digit}
 use Rattle.pieces.proofs.fits.Goals as goal
 
-pub returns-then-c-lt48 : goal.returns-then-c-lt48
-returns-then-c-lt48 c = fits_low _ _ _ (search rules)
+pub returns-then-not-is_ascii_digit : goal.returns-then-not-is_ascii_digit
+returns-then-not-is_ascii_digit c =
+    elim c.then-not-is_ascii_digit.either [ inl h ↦ fits_none _ _ _ (no_digit c.args.c c.is_ascii_digit.ensures.value h) | inr h ↦ fits_zero _ _ _ h.1 ]
 
-pub returns-then-c-gt57 : goal.returns-then-c-gt57
-returns-then-c-gt57 c = fits_high _ _ _ (search rules) (search rules)
+pub returns-then-digit-most : goal.returns-then-digit-most
+returns-then-digit-most c = rw (le-leb _ _ c.if-digit-most.true) at (fits_digit c.args.v c.args.most c.args.c (is_digit c.args.c c.is_ascii_digit.ensures.value c.if-not-is_ascii_digit.false) c.if-v-eq0.false)
 
-pub returns-then-v-eq0 : goal.returns-then-v-eq0
-returns-then-v-eq0 c = fits_zero _ _ _ (search rules) (search rules) (search rules)
-
-pub returns-then-most-d : goal.returns-then-most-d
-returns-then-most-d c = fits_past _ _ _ (search rules) (search rules) (search rules) (search rules)
-
-pub returns : goal.returns
-returns c = fits_last _ _ _ (search rules) (search rules) (search rules) (search rules)
+pub returns-else-digit-most : goal.returns-else-digit-most
+returns-else-digit-most c = rw (lt-leb _ _ c.if-digit-most.false) (rw (lt-leb _ _ c.if-digit-most.false) at (fits_digit c.args.v c.args.most c.args.c (is_digit c.args.c c.is_ascii_digit.ensures.value c.if-not-is_ascii_digit.false) c.if-v-eq0.false))

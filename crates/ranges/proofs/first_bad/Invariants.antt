@@ -1,10 +1,9 @@
--- The first j ranges are compared.
-use Rattle.std.proofs.Common.{◌≡◌, ◌-◌, ◌≤◌, length}
-use Rattle.ranges.specs.Comparing.{compared_to}
+-- None of the first j ranges is bad, and the set has where they end.
+use Rattle.std.proofs.Common.{◌≡◌, length}
+use Rattle.model.proofs.Search.{Searched}
+use Rattle.ranges.specs.Ranges.{bad_at}
+use Rattle.ranges.proofs.Turns.{ends_of}
 use Rattle.ranges.proofs.first_bad.Given as goal
 
 abbrev pub invariant-loop-j : goal.invariant-loop-j
-invariant-loop-j l = (l.j ≤ length l.loops) × (l.known ≡ compared_to l.loops l.end l.j)
-
-abbrev pub decreases-loop-j : goal.decreases-loop-j
-decreases-loop-j l = length l.loops - l.j
+invariant-loop-j l = Searched (length l.loops) (bad_at l.loops l.end) l.j × (l.ends ≡ ends_of l.loops l.j)

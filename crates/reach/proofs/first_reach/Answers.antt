@@ -11,12 +11,12 @@ below-requires c =
     let ok = facts _ c.requires.fact_1 in
     omega (arith, c.function_count.ensures, some_function _ ok, few_functions _ ok)
 
-pub close_fresh-requires : goal.close_fresh-requires
-close_fresh-requires c =
-    record { checked_1 = c.requires.fact_1; checked_2 = c.requires.fact_2; fresh_len_1 = refl; fresh_len_2 = fresh_begun (problem_of c.args.l.now) _ }
+pub close-requires : goal.close-requires
+close-requires c =
+    record { checked = c.requires.fact_1; starts = c.requires.fact_2; long = refl; sound = fresh_begun (problem_of c.args.l.now) _ }
 
 pub returns : goal.returns
 returns c =
     fresh_table (problem_of c.args.l.now) _ _
     (λ f lt. c.below.ensures f (omega (arith, c.function_count.ensures)))
-    c.close_fresh.ensures
+    c.close.ensures

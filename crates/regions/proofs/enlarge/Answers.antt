@@ -3,7 +3,7 @@ use Rattle.regions.proofs.Sizes.{in_region, in_none}
 use Rattle.regions.proofs.enlarge.Goals as goal
 
 pub returns-then-region-lt-MOST_REGIONS : goal.returns-then-region-lt-MOST_REGIONS
-returns-then-region-lt-MOST_REGIONS c = in_region c.requires _ c.if-region-lt-MOST_REGIONS.true c.larger_bytes-most.ensures
+returns-then-region-lt-MOST_REGIONS c = in_region c.requires _ c.if-region-lt-MOST_REGIONS.true c.max.ensures
 
 pub returns-else-region-lt-MOST_REGIONS : goal.returns-else-region-lt-MOST_REGIONS
 returns-else-region-lt-MOST_REGIONS c = in_none c.requires _ c.if-region-lt-MOST_REGIONS.false

@@ -6,14 +6,8 @@ use Rattle.regions.proofs.largest_sizes.Goals as goal
 pub loop-f-init : goal.loop-f-init
 loop-f-init c = none_sized _ _
 
-pub region_of-requires : goal.region_of-requires
-region_of-requires c = omega (arith, c.requires.fact_2)
-
 pub size_of-requires : goal.size_of-requires
 size_of-requires c = record { fact_1 = facts _ c.requires.fact_1; fact_2 = omega arith }
-
-pub enlarge-requires : goal.enlarge-requires
-enlarge-requires c = c.loop-f.invariant.long
 
 pub loop-f-preserved : goal.loop-f-preserved
 loop-f-preserved c =

@@ -6,6 +6,3 @@ use Rattle.regions.proofs.largest_sizes.Given as goal
 
 abbrev pub invariant-loop-f : goal.invariant-loop-f
 invariant-loop-f l = Sizing (problem_of l.l) l.layout l.f l.sizes
-
-abbrev pub decreases-loop-f : goal.decreases-loop-f
-decreases-loop-f l = l.count - l.f

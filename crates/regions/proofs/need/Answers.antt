@@ -7,18 +7,18 @@ use Rattle.regions.proofs.Sums.{turn, end, total_more}
 use Rattle.regions.proofs.Most.{sum_high}
 use Rattle.regions.proofs.need.Goals as goal
 
-pub loop-region-init : goal.loop-region-init
+pub loop-size-init : goal.loop-size-init
 unfolding total
-loop-region-init c = record { within = omega arith; is = refl }
+loop-size-init c = record { within = omega arith; is = refl }
 
-pub sum_of_bytes-needed-requires : goal.sum_of_bytes-needed-requires
-sum_of_bytes-needed-requires c =
-    omega (arith, c.largest_sizes.ensures.item c.loop-region.region (omega arith), sum_high _ c.requires.fact_1 c.args.layout.now c.loop-region.region (omega arith))
+pub add-needed-requires : goal.add-needed-requires
+add-needed-requires c =
+    omega (arith, c.largest_sizes.ensures.item c.loop-size.size-index (omega arith), sum_high _ c.requires.fact_1 c.args.layout.now c.loop-size.size-index (omega arith))
 
-pub loop-region-preserved : goal.loop-region-preserved
-loop-region-preserved c =
-    turn ◌+◌ (total_more _) c.loop-region.invariant (omega arith) (c.largest_sizes.ensures.item _ (omega arith)) c.sum_of_bytes-needed.ensures
+pub loop-size-preserved : goal.loop-size-preserved
+loop-size-preserved c =
+    turn ◌+◌ (total_more _) c.loop-size.invariant (omega arith) (c.largest_sizes.ensures.item _ (omega arith)) c.add-needed.ensures
 
 pub returns : goal.returns
 unfolding need_of
-returns c = end c.loop-region.invariant (omega arith)
+returns c = end c.loop-size.invariant (omega arith)

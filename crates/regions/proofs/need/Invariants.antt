@@ -7,8 +7,5 @@ use Rattle.model.specs.Layouts.{largest_in}
 use Rattle.regions.proofs.Sums.{Upto}
 use Rattle.regions.proofs.need.Given as goal
 
-abbrev pub invariant-loop-region : goal.invariant-loop-region
-invariant-loop-region l = Upto (λ n. total n (largest_in (problem_of l.l) l.layout)) most_regions l.region l.needed.0
-
-abbrev pub decreases-loop-region : goal.decreases-loop-region
-decreases-loop-region l = most_regions - l.region
+abbrev pub invariant-loop-size : goal.invariant-loop-size
+invariant-loop-size l = Upto (λ n. total n (largest_in (problem_of l.l) l.layout)) most_regions l.size-index l.needed.0

@@ -1,11 +1,24 @@
-use Rattle.model.proofs.Copies.{copied_none, copied_more, copied_all}
+-- What `copy_from_slice` leaves is what storing the part's numbers one after the other does.
+use Prim.Native.Nat.{ℕ, ◌+◌, ◌-◌, ◌≤◌}
+use mathlib.Core.Path.{◌≡◌, refl, sym, ap₂, ◌∙◌}
+use mathlib.Core.List.{List, ◌++◌}
+use native.Mathlib.Omega.{arith}
+use lib.ListN.{length}
+use borrow.Rule.Slice.PartMut.{put_mid}
+use Rattle.std.proofs.lemmas.List.{take-append-drop}
+use Rattle.std.proofs.lemmas.List.Edits.{sets, sets-eq}
+use Rattle.std.proofs.lemmas.Slice.{take-put_mid, drop-put_mid}
 use Rattle.samples.proofs.put.Goals as goal
 
-pub loop-i-init : goal.loop-i-init
-loop-i-init c = copied_none _ _ _
-
-pub loop-i-preserved : goal.loop-i-preserved
-loop-i-preserved c = copied_more _ _ _ _ _ c.loop-i-test.true c.loop-i.invariant
+stored : (at k : ℕ) (xs ys : List ℕ) → length ys ≡ k → at + length ys ≤ length xs → put_mid at k xs ys ≡ sets xs at ys
+stored at k xs ys e fits =
+    let n = at + length ys in
+    sym (take-append-drop n (put_mid at k xs ys))
+    ∙ ap₂ ◌++◌ (take-put_mid at k xs ys n refl (omega arith)) (drop-put_mid at k xs ys n (omega arith) (omega arith) e)
+    ∙ sym (sets-eq ys xs at fits)
 
 pub returns : goal.returns
-returns c = copied_all _ _ _ _ _ c.loop-i-test.false c.loop-i.invariant
+returns c =
+    let part = c.args.part.now in
+    rw c.copy_from_slice.ensures.after
+    (stored c.args.at (c.args.at + length part - c.args.at) c.args.l.now part (omega arith) (omega arith))

@@ -1,4 +1,4 @@
--- `read_fields` reads as `readFrom` does. The invariant: what is left to from the present field is what was to be from the first, and the field is valid.
+-- `read_fields` reads as `read_from` does. The invariant: what is left to read from the present field is what was to be from the first, and the field is valid.
 use Prim.Native.Nat.{◌-◌}
 use Rattle.model.specs.File.{number_count}
 use Rattle.scan.proofs.Reading.{Reading}

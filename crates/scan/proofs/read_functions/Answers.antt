@@ -1,44 +1,33 @@
+-- `read_functions` reads on as the steps from field to field do.
 use mathlib.Core.Path.{sym, ◌∙◌}
-use mathlib.Core.Bool.{true}
 use native.Mathlib.Omega.{arith}
-use borrow.Author.Tests.{not-false}
-use Rattle.model.specs.File.{in_range}
+use Rattle.fields.specs.Valid.{Placed}
 use Rattle.scan.proofs.Functions.{not_further, here_placed, nearer, one_further}
 use Rattle.scan.proofs.read_functions.Goals as goal
+use Rattle.scan.proofs.read_functions.Goals.{In-loop-field}
 
-pub loop-number-init : goal.loop-number-init
-loop-number-init c = not_further c.requires.readable_1 c.requires.readable_2
+place : (c : In-loop-field) → Placed c.loop-field.far.field
+place c = here_placed c.loop-field.invariant (c.in_functions.ensures c.loop-field-test.true)
 
-pub returns-in_default : goal.returns-in_default
-returns-in_default c = c.loop-number.invariant
+pub loop-field-init : goal.loop-field-init
+loop-field-init c = not_further c.requires.readable_1 c.requires.readable_2
 
-pub in_range-requires : goal.in_range-requires
-in_range-requires c =
-    record { table_value = c.requires.table_value; placed = here_placed c.loop-number.invariant (c.in_functions.ensures c.loop-number-test.true) }
+pub in_range-requires-clause-placed : goal.in_range-requires-clause-placed
+in_range-requires-clause-placed c = place (goal.at.in_range-requires-clause-placed c).In-loop-field
 
-pub returns-then-not-in_range : goal.returns-then-not-in_range
-returns-then-not-in_range c = c.loop-number.invariant
+pub offset_bounds-numbers-field : goal.offset_bounds-numbers-field
+offset_bounds-numbers-field c = omega (arith, (place (goal.at.offset_bounds-numbers-field c).In-loop-field).place)
 
-pub offset_bounds-numbers-place : goal.offset_bounds-numbers-place
-offset_bounds-numbers-place c = omega (arith, (here_placed c.loop-number.invariant (c.in_functions.ensures c.loop-number-test.true)).place)
+pub bounds-numbers-field : goal.bounds-numbers-field
+bounds-numbers-field c = (place (goal.at.bounds-numbers-field c).In-loop-field).place
 
-pub bounds-numbers-place : goal.bounds-numbers-place
-bounds-numbers-place c = (here_placed c.loop-number.invariant (c.in_functions.ensures c.loop-number-test.true)).place
+pub after_function_field-requires-clause-fact_2 : goal.after_function_field-requires-clause-fact_2
+after_function_field-requires-clause-fact_2 c = place (goal.at.after_function_field-requires-clause-fact_2 c).In-loop-field
 
-pub function_start-start-requires : goal.function_start-start-requires
-function_start-start-requires c = (c.in_functions.ensures c.loop-number-test.true)
+pub loop-field-smaller : goal.loop-field-smaller
+loop-field-smaller c =
+    nearer c.loop-field.invariant (c.in_functions.ensures c.loop-field-test.true) (sym c.read_field-number.ensures ∙ c.in-Ok.is) (sym c.if-not-in_range.ensures) (c.after_function_field.ensures _)
 
-pub after_function_field-field-requires : goal.after_function_field-field-requires
-after_function_field-field-requires c =
-    record { fact_1 = (c.in_functions.ensures c.loop-number-test.true); fact_2 = here_placed c.loop-number.invariant (c.in_functions.ensures c.loop-number-test.true) }
-
-pub loop-number-smaller : goal.loop-number-smaller
-loop-number-smaller c =
-    nearer c.loop-number.invariant (c.in_functions.ensures c.loop-number-test.true) (sym c.read_field-number.ensures ∙ c.in-Value.is) (sym c.in_range.ensures ∙ not-false _ c.if-not-in_range.false-raw) (c.after_function_field-field.ensures _)
-
-pub loop-number-preserved : goal.loop-number-preserved
-loop-number-preserved c =
-    one_further c.loop-number.invariant (c.in_functions.ensures c.loop-number-test.true) (sym c.read_field-number.ensures ∙ c.in-Value.is) (sym c.in_range.ensures ∙ not-false _ c.if-not-in_range.false-raw) (c.after_function_field-field.ensures _) c.function_start-start.ensures
-
-pub returns : goal.returns
-returns c = c.loop-number.invariant
+pub loop-field-preserved : goal.loop-field-preserved
+loop-field-preserved c =
+    one_further c.loop-field.invariant (c.in_functions.ensures c.loop-field-test.true) (sym c.read_field-number.ensures ∙ c.in-Ok.is) (sym c.if-not-in_range.ensures) (c.after_function_field.ensures _) c.function_start.ensures

@@ -5,8 +5,8 @@ use Rattle.lookup.proofs.Places.{facts, few_functions}
 use Rattle.sets.proofs.Flow.{set_begun, set-table}
 use Rattle.sets.proofs.sets.Goals as goal
 
-pub close_sets-requires : goal.close_sets-requires
-close_sets-requires c = record { fact_1 = c.requires; fact_2 = refl; fact_3 = set_begun (problem_of c.args.l.now) }
+pub close-requires : goal.close-requires
+close-requires c = record { checked = c.requires; starts = c.starts.ensures; long = refl; sound = set_begun (problem_of c.args.l.now) }
 
 pub returns : goal.returns
-returns c = set-table (problem_of c.args.l.now) _ (few_functions _ (facts _ c.requires)) c.close_sets.ensures
+returns c = set-table (problem_of c.args.l.now) _ (few_functions _ (facts _ c.requires)) c.close.ensures

@@ -7,16 +7,16 @@ place_table-places-requires c = record { fact_1 = c.requires.checked; fact_2 = c
 pub cost_table-costs-requires : goal.cost_table-costs-requires
 cost_table-costs-requires c = c.requires.checked
 
-pub loop-i-init : goal.loop-i-init
-loop-i-init c = not_yet _ _ _
+pub loop-entry-init : goal.loop-entry-init
+loop-entry-init c = not_yet _ _ _
 
 pub visit-run-requires : goal.visit-run-requires
 visit-run-requires c =
-    ready _ _ _ c.requires _ _ c.place_table-places.ensures c.cost_table-costs.ensures _ _ _ _ c.loop-i-test.true c.loop-i.invariant
+    ready _ _ _ c.requires _ _ c.place_table-places.ensures c.cost_table-costs.ensures _ _ _ _ c.loop-entry-test.true c.loop-entry.invariant
 
-pub loop-i-preserved : goal.loop-i-preserved
-loop-i-preserved c =
-    next_visit _ _ _ c.requires _ _ c.place_table-places.ensures c.cost_table-costs.ensures _ _ _ _ c.loop-i-test.true c.loop-i.invariant _ _ _ c.visit-run.ensures
+pub loop-entry-preserved : goal.loop-entry-preserved
+loop-entry-preserved c =
+    next_visit _ _ _ c.requires _ _ c.place_table-places.ensures c.cost_table-costs.ensures _ _ _ _ c.loop-entry-test.true c.loop-entry.invariant _ _ _ c.visit-run.ensures
 
 pub returns : goal.returns
-returns c = run_over _ _ _ _ _ _ _ c.loop-i-test.false c.loop-i.invariant
+returns c = run_over _ _ _ _ _ _ _ c.loop-entry-test.false c.loop-entry.invariant

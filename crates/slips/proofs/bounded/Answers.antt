@@ -2,8 +2,8 @@
 use Rattle.slips.proofs.Parts.{slip_written}
 use Rattle.slips.proofs.bounded.Goals as goal
 
-pub returns-in-Refused : goal.returns-in-Refused
-returns-in-Refused c = slip_written _ _ c.in-Refused.is c.refused.ensures
+pub returns-in-Err : goal.returns-in-Err
+returns-in-Err c = slip_written _ _ c.in-Err.is c.refused.ensures
 
-pub returns-in-Bounded : goal.returns-in-Bounded
-returns-in-Bounded c = slip_written _ _ c.in-Bounded.is c.results.ensures
+pub returns-in-Ok : goal.returns-in-Ok
+returns-in-Ok c = slip_written _ _ c.in-Ok.is c.results.ensures

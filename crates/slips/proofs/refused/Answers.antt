@@ -7,4 +7,4 @@ use Rattle.slips.proofs.refused.Goals as goal
 pub returns : goal.returns
 unfolding line text
 returns c =
-    refusal_written _ _ _ c.number_of-number.ensures c.place_of-place.ensures c.write_labelled-behind.ensures.written c.write_line.ensures.written
+    refusal_written _ _ _ c.number-number.ensures c.place-place.ensures c.write_labelled-behind.ensures.written c.write_line.ensures.written

@@ -4,6 +4,3 @@ use Rattle.spelling.proofs.read_groups.Given as goal
 
 abbrev pub invariant-loop-left : goal.invariant-loop-left
 invariant-loop-left l = Underway l.bytes l.at l.left l.pos l.unit l.value
-
-abbrev pub decreases-loop-left : goal.decreases-loop-left
-decreases-loop-left l = l.left

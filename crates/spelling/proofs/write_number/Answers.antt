@@ -1,19 +1,13 @@
-use mathlib.Core.Path.{refl, ◌∙◌}
+use mathlib.Core.Path.{◌∙◌}
 use native.Mathlib.Omega.{arith}
-use Rattle.spelling.proofs.Laws.{size_pos, write_turn, write_last}
-use borrow.Author.Rules.{rules}
+use Rattle.spelling.proofs.Laws.{size_pos, write_start, write_turn, write_last}
 use Rattle.spelling.proofs.write_number.Goals as goal
 
-pub loop-left-init : goal.loop-left-init
-loop-left-init c = rw c.number_size-left.ensures (size_pos c.args.value, refl, refl, refl)
+pub loop-pos-init : goal.loop-pos-init
+loop-pos-init c = write_start _ _ _ _ (omega (arith, c.number_size.ensures, size_pos c.args.value))
 
-pub loop-left-preserved : goal.loop-left-preserved
-loop-left-preserved c = (
-  search rules,
-  search rules,
-  search rules,
-  write_turn _ _ _ _ c.loop-left-test.true ∙ c.loop-left.invariant.3,
-)
+pub loop-pos-preserved : goal.loop-pos-preserved
+loop-pos-preserved c = write_turn _ _ _ _ c.loop-pos-test.true ∙ c.loop-pos.invariant
 
-pub returns : goal.returns
-returns c = record { fact_1 = search rules; fact_2 = write_last _ _ _ _ (omega arith) ∙ c.loop-left.invariant.3 }
+pub returns-clause-fact_2 : goal.returns-clause-fact_2
+returns-clause-fact_2 c = write_last _ _ _ _ (omega (arith, c.number_size.ensures, size_pos c.args.value)) ∙ c.loop-pos.invariant

@@ -10,8 +10,8 @@ use Rattle.stays.proofs.stay_in.Goals as goal
 added : (turn entry : ℕ) {bound at turns r : ℕ} → at ≡ bound → turns ≡ min cap ((at - 1) * turn) → r ≡ min cap (entry + turns) → r ≡ min cap (entry + (bound - 1) * turn)
 added turn entry {bound} {turns = turns} is product total = let p : turns ≡ min cap ((bound - 1) * turn) = rw is at product in omega arith
 
-pub loop_bound-requires : goal.loop_bound-requires
-loop_bound-requires c = record { fact_1 = facts c.requires.fact_1; fact_2 = c.requires.fact_2 }
+pub loop_bound-requires-clause-fact_1 : goal.loop_bound-requires-clause-fact_1
+loop_bound-requires-clause-fact_1 c = facts c.requires.fact_1
 
 pub overflow_sub-loop_bound : goal.overflow_sub-loop_bound
 overflow_sub-loop_bound c = omega (arith, c.loop_bound.ensures, bound_low _ (facts c.requires.fact_1) _ c.requires.fact_2)

@@ -10,11 +10,11 @@ edge_count-count-requires c = facts _ c.requires
 pub loop-i-init : goal.loop-i-init
 loop-i-init c = (search rules, start_marked _)
 
-pub edge_from-from-requires : goal.edge_from-from-requires
-edge_from-from-requires c = record { fact_1 = facts _ c.requires; fact_2 = search rules }
+pub edge_from-from-requires-clause-fact_1 : goal.edge_from-from-requires-clause-fact_1
+edge_from-from-requires-clause-fact_1 c = facts _ c.requires
 
-pub edge_to-to-requires : goal.edge_to-to-requires
-edge_to-to-requires c = record { fact_1 = facts _ c.requires; fact_2 = search rules }
+pub edge_to-to-requires-clause-fact_1 : goal.edge_to-to-requires-clause-fact_1
+edge_to-to-requires-clause-fact_1 c = facts _ c.requires
 
 pub overflow_mul-table : goal.overflow_mul-table
 overflow_mul-table c = omega (arith, (mark_inside _ c.requires c.loop-i.i _ _ _ (omega arith) c.edge_from-from.ensures c.edge_to-to.ensures c.step_along.ensures))

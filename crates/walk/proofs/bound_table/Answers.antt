@@ -10,11 +10,11 @@ loop_count-count-requires c = facts _ c.requires
 pub loop-i-init : goal.loop-i-init
 loop-i-init c = (omega (arith, few_loops _ (facts _ c.requires)), none_entered _)
 
-pub loop_header-header-requires : goal.loop_header-header-requires
-loop_header-header-requires c = record { fact_1 = facts _ c.requires; fact_2 = search rules }
+pub loop_header-header-requires-clause-fact_1 : goal.loop_header-header-requires-clause-fact_1
+loop_header-header-requires-clause-fact_1 c = facts _ c.requires
 
-pub loop_bound-requires : goal.loop_bound-requires
-loop_bound-requires c = record { fact_1 = facts _ c.requires; fact_2 = search rules }
+pub loop_bound-requires-clause-fact_1 : goal.loop_bound-requires-clause-fact_1
+loop_bound-requires-clause-fact_1 c = facts _ c.requires
 
 pub offset_bounds-table-header : goal.offset_bounds-table-header
 offset_bounds-table-header c = omega (arith, (header_inside _ c.requires c.loop-i.i _ (omega arith) c.loop_header-header.ensures))

@@ -1,5 +1,5 @@
 -- `walk::bound_table` enters every loop at its header. The loop's invariant: the first i loops are entered.
-use Prim.Native.Nat.{◌-◌, ◌≤◌}
+use Prim.Native.Nat.{◌≤◌}
 use Rattle.model.specs.Numbers.{problem_of}
 use Rattle.walk.proofs.Bounds.{Entered}
 use Rattle.model.specs.Places as places
@@ -7,6 +7,3 @@ use Rattle.walk.proofs.bound_table.Given as goal
 
 abbrev pub invariant-loop-i : goal.invariant-loop-i
 invariant-loop-i l = (l.count ≤ places.most_loops) × Entered (problem_of l.l) l.i l.table
-
-abbrev pub decreases-loop-i : goal.decreases-loop-i
-decreases-loop-i l = l.count - l.i

@@ -1,4 +1,6 @@
+use mathlib.Core.Path.{◌≡◌}
 use native.Mathlib.Omega.{arith}
+use lib.ListN.{length}
 use borrow.Author.Tests.{not-true, not-false}
 use Rattle.lookup.proofs.Places.{facts, few_vertices}
 use Rattle.walk.proofs.Entries.{begin, latest_few, stepping, bad, arriving, past, good, ends_well, ends_early}
@@ -38,4 +40,6 @@ pub returns-then-u-vertices : goal.returns-then-u-vertices
 returns-then-u-vertices c = ends_well _ c.requires _ _ _ _ c.loop-i.invariant c.loop-i-test.false (omega arith)
 
 pub returns : goal.returns
-returns c = ends_early _ c.requires _ _ _ _ c.loop-i.invariant c.loop-i-test.false (λ e. c.if-u-vertices.false (omega arith))
+returns c =
+    let over : length c.args.walk.now ≡ c.loop-i.i = omega (arith, c.loop-i.invariant.within, c.loop-i-test.false) in
+    rw over (ends_early _ c.requires _ _ _ _ c.loop-i.invariant c.loop-i-test.false (λ e. c.if-u-vertices.false (omega arith)))

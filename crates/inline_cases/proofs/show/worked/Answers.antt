@@ -3,4 +3,4 @@ use Rattle.lookup.proofs.Places.{facts}
 use Rattle.inline_cases.proofs.show.worked.Goals as goal
 
 pub problem-requires : goal.problem-requires
-problem-requires g c = facts _ (c.inline_numbers-verdict.ensures.checked c.in-Accepted.is)
+problem-requires g c = facts _ (c.inline_numbers-verdict.ensures.checked c.in-Ok.is)

@@ -1,4 +1,5 @@
 -- `read_visit` goes past the opening and reads the function.
+use Rattle.std.proofs.Common.{rules}
 use Prim.Native.Nat.{◌-◌}
 use native.Mathlib.Omega.{arith}
 use Rattle.model.specs.Decimals.{text}
@@ -8,17 +9,14 @@ use Rattle.sentences.specs.Remarks.{every_visit, after_function}
 use Rattle.sentences.proofs.Steps.{stops, passed_within, passes}
 use Rattle.sentences.proofs.reading.read_visit.Goals as goal
 
-pub returns-in_default : goal.returns-in_default
+pub returns-in_err-end : goal.returns-in_err-end
 unfolding text
-returns-in_default c =
-    stops c.args.text.now 0 every_visit (value 0 (most_functions - 1) after_function) c.pass_words-opened.ensures c.in_default.is c.stopped.ensures
+returns-in_err-end c = stops c.args.text.now 0 every_visit _ c.pass_words.ensures (search rules)
 
 pub read_function-requires : goal.read_function-requires
 unfolding text
-read_function-requires c =
-    passed_within c.args.text.now 0 every_visit (value 0 (most_functions - 1) after_function) c.pass_words-opened.ensures (omega arith) c.in-Passed.is
+read_function-requires c = passed_within c.args.text.now 0 every_visit (value 0 (most_functions - 1) after_function) c.pass_words.ensures (omega arith) (search rules)
 
 pub returns : goal.returns
 unfolding text
-returns c =
-    passes c.args.text.now 0 every_visit (value 0 (most_functions - 1) after_function) c.pass_words-opened.ensures (omega arith) c.in-Passed.is c.read_function.ensures
+returns c = passes c.args.text.now 0 every_visit _ c.pass_words.ensures (omega arith) (search rules) c.read_function.ensures
