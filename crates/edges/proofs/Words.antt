@@ -263,7 +263,7 @@ module _ {n : ℕ} {ls : List Loop} {around marks : List ℕ} (a : Around n ls a
         not-not (eqb (bit_and heads out) 0),
       )
 
-  wrong_edge_lem : (e : Edge) → from ≡ e.from → to ≡ e.to → {r : Bool} → r ≡ wrong_by into out heads from to → r ≡ wrong_edge ls e
+  pub wrong_edge_lem : (e : Edge) → from ≡ e.from → to ≡ e.to → {r : Bool} → r ≡ wrong_by into out heads from to → r ≡ wrong_edge ls e
   wrong_edge_lem e q p is =
       let numbers : wrong_edge ls (edge_of from to) ≡ wrong_edge ls e = rw (q, p) in
       is ∙ (told_wrong ∙ numbers)

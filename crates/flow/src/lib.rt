@@ -19,7 +19,7 @@ use model::{Numbers, places};
 pub type Begins = [usize; places::MOST_VERTICES + 1];
 
 // Which vertices wait for a visit.
-type Marks = [bool; places::MOST_VERTICES];
+pub type Marks = [bool; places::MOST_VERTICES];
 
 // Behind the last edge from each vertex, at the place after the vertex's own; 0 where it has none.
 fn ends(l: &Numbers) -> Begins
