@@ -27,7 +27,7 @@ fn enlarge(sizes: &mut Sizes, region: usize, size: Bytes)
     ensures { Enlarged sizes.old region size.0 sizes.new }
 {
     if region < limits::MOST_REGIONS {
-        sizes[region] = sizes[region].max(size.0);
+        sizes[region] = Bytes(sizes[region]).max(size).0;
     }
 }
 
